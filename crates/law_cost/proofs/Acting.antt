@@ -1,11 +1,11 @@
 -- What each action of a reversal takes, from what the groups and the calls of the step unit and of its adjoint take.
-use Rattle.std.proofs.Common.{◌≡◌, ◌<◌, ◌≤◌, ◌^◌, ℕ, zero, suc, ◌+◌, ◌-◌, ◌*◌, Bool, true, false, List, [], ◌∷◌, ◌++◌, length, Some, refl, sym, ap, ◌∙◌, subst, arith, int_eq}
-use Rattle.std.specs.Prelude.{ℤ, pos, ◌-ℤ◌, nat_le, slice_get, Ok, ◌==◌, ◌&&◌, not}
-use Rattle.adj_tree.specs.Code.{Role, role_code, Var, plain, helper, first, stride, count, turn, entry, kind, lower, upper, slots, name_eq, plus, minus, times, is_same, var, bin, none, Mark, compare, choose, assign, unmarked, loop, runtime, give_action, Code, stop}
+use Rattle.std.proofs.Common.{◌≡◌, ◌<◌, ◌≤◌, ◌^◌, ℕ, zero, suc, ◌+◌, ◌-◌, ◌*◌, Bool, true, false, List, ◌∷◌, ◌++◌, length, refl, sym, ap, ◌∙◌, subst, arith, int_eq}
+use Rattle.std.specs.Prelude.{ℤ, pos, Ok, not}
+use Rattle.adj_tree.specs.Code.{Var, plain, helper, first, stride, count, turn, entry, kind, lower, upper, slots, plus, minus, times, is_same, var, bin, none, Mark, compare, choose, assign, unmarked, loop, runtime, give_action, Code, stop}
 use Rattle.adj_tree.proofs.Names.{nat_refl, name_refl}
-use Rattle.adj_word.specs.Word.{wrap, add, sub, mul, trip_count}
+use Rattle.adj_word.specs.Word.{wrap, add, sub, mul}
 use Rattle.adj_word.proofs.Residues.{wrap_word}
-use Rattle.adj_word.proofs.Counting.{word-count, count_up, last_of, trips_up}
+use Rattle.adj_word.proofs.Counting.{word-count, count_up}
 use Rattle.adj_revolve.specs.declared.machine.Action.{Action}
 use Rattle.adj_revolve.specs.declared.machine.Action.TheVariants.{Store as Put, Advance, Turn, Keep, Drop}
 use Rattle.adj_revolve.specs.Schedule.{schedule_of}
@@ -14,7 +14,7 @@ use Rattle.def_meaning.specs.Store.{Shape, Store, set}
 use Rattle.def_meaning.specs.Value.{Setting, value}
 use Rattle.def_meaning.specs.Scene.{Scene}
 use Rattle.def_meaning.specs.Run.{Calls, trips, stepped}
-use Rattle.def_meaning.specs.Runtime.{steps_of, snapshots_of, kind_of, lower_of, upper_of}
+use Rattle.def_meaning.specs.Runtime.{steps_of, snapshots_of}
 use Rattle.law_sweep.specs.Pairs.{on_words}
 use Rattle.law_sweep.specs.Scenes.{Course, scene}
 use Rattle.def_sweep.specs.Marked.{code_if}
@@ -23,7 +23,7 @@ use Rattle.def_sweep.specs.ReversalCode.{at_turn, arm, advance, arms, one_action
 use Rattle.law_sweep.proofs.Idle.{empty_is}
 use Rattle.law_sweep.proofs.Slots.{slots_same}
 use Rattle.law_sweep.proofs.Turns.{next_store}
-use Rattle.law_sweep.proofs.Acting.{SameHelpers}
+use Rattle.law_sweep.proofs.ActionStores.{at_past, past_less, SameHelpers, SameFixed, fixed_none, fixed_of, fixed_then, told, told_kind, told_lower, told_upper, Beside, own_set, variable_set, beside_then, told_beside, next_beside, AtStep, Ready, trips_between}
 use Rattle.law_sweep.proofs.Playing.{past}
 use Rattle.law_cost.specs.Sums.{sum_of}
 use Rattle.law_cost.proofs.Takes.{Takes, TurnsTake, takes_stop, takes_more, takes_append, takes_step, takes_one, act_takes_then, act_takes_else, turns_take_none, turns_take_more, turns_take_as, loop_takes}
@@ -120,33 +120,6 @@ module _ (q : Calls ℤ) (sh : Var → Shape) (level line d : ℕ) where
 -- ---- actions
 
 -- the k-th action
-at_past : (k : ℕ) (list : List Action) (a : Action) (rest : List Action) → past k list ≡ a ∷ rest → slice_get list k ≡ Some a
-at_past zero [] a rest h = cc
-at_past zero (b ∷ list) a rest h = cc
-at_past (suc k) [] a rest h = cc
-at_past (suc k) (b ∷ list) a rest h = at_past k list a rest h
-
-past_less : (k : ℕ) (list : List Action) (a : Action) (rest : List Action) → past k list ≡ a ∷ rest → k < length list
-past_less zero [] a rest h = cc
-past_less zero (b ∷ list) a rest h = omega arith
-past_less (suc k) [] a rest h = cc
-past_less (suc k) (b ∷ list) a rest h = let less = past_less k list a rest h in omega arith
-
--- what stays over the arms of an action of a loop of depth d
-record SameFixed (d : ℕ) (f g : Store ℤ) : Type 0 where
-  count_is : g (helper count d) 0 ≡ f (helper count d) 0
-  first_is : g (helper first d) 0 ≡ f (helper first d) 0
-  stride_is : g (helper stride d) 0 ≡ f (helper stride d) 0
-  slots_is : g (helper slots d) 0 ≡ f (helper slots d) 0
-  entry_is : g (helper entry d) 0 ≡ f (helper entry d) 0
-  kind_is : g (helper kind d) 0 ≡ f (helper kind d) 0
-
-fixed_of : (d : ℕ) (f g : Store ℤ) → SameHelpers f g → SameFixed d f g
-fixed_of d f g h = record { count_is = h.at count d 0; first_is = h.at first d 0; stride_is = h.at stride d 0; slots_is = h.at slots d 0; entry_is = h.at entry d 0; kind_is = h.at kind d 0 }
-
-fixed_then : (d : ℕ) (f g h : Store ℤ) → SameFixed d f g → SameFixed d g h → SameFixed d f h
-fixed_then d f g h a b = record { count_is = b.count_is ∙ a.count_is; first_is = b.first_is ∙ a.first_is; stride_is = b.stride_is ∙ a.stride_is; slots_is = b.slots_is ∙ a.slots_is; entry_is = b.entry_is ∙ a.entry_is; kind_is = b.kind_is ∙ a.kind_is }
-
 -- The reversal of a loop of depth d and l turns with m snapshots, by its directive; `a0` and `c0` are its first value and its step, x its
 -- variable. A group is pushed or popped by at most W statements, the step unit is called at step i by P i, and its adjoint by A i.
 module _ (q : Calls ℤ) (sh : Var → Shape) (level : ℕ) (d line : ℕ) (x : List ℕ) (l m : ℕ) (mark : Mark) (a0 c0 : ℤ) (keep back plain_call adjoint : Code) (Standing : ℕ → Store ℤ → Type 0) (Loose : Store ℤ → Type 0) (Snap : ℕ → List ℤ → Type 0) (W : ℕ) (P A : ℕ → ℕ) where
@@ -184,24 +157,15 @@ module _ (q : Calls ℤ) (sh : Var → Shape) (level : ℕ) (d line : ℕ) (x : 
     pub loose : Loose after
     pub helpers : SameHelpers f after
 
-  -- the loop's variable has its value at step i
-  abbrev pub AtStep : ℕ → Store ℤ → Type 0
-  AtStep i f = f (plain x) 0 ≡ add a0 (mul (pos i) c0)
-
-  -- the stores differ in the loop's variable, in shadows and in helpers of its depth alone
-  pub record Beside (f g : Store ℤ) : Type 0 where
-    pub plains : (y : List ℕ) (j : ℕ) → name_eq y x ≡ false → g (plain y) j ≡ f (plain y) j
-    pub helpers : (r : Role) (k c : ℕ) → (k == d) ≡ false → g (helper r k) c ≡ f (helper r k) c
-
   -- what a reversal asks of the groups and of the calls
   pub record Stepping : Type 0 where
     pub pushed : (i : ℕ) (f : Store ℤ) → Standing i f → SnapshotPushed i f
     pub popped : (i : ℕ) (snap : List ℤ) (g : Store ℤ) → Snap i snap → Loose g → SnapshotPopped i snap g
-    pub stepped : (i : ℕ) (b : Course) (f : Store ℤ) (t : List ℤ) → i < l → Standing i f → AtStep i f → Stepped i b f t
-    pub turned : (i : ℕ) (b : Course) (f : Store ℤ) (t : List ℤ) → i < l → Standing i f → AtStep i f → TurnedBack i b f t
+    pub stepped : (i : ℕ) (b : Course) (f : Store ℤ) (t : List ℤ) → i < l → Standing i f → AtStep x a0 c0 i f → Stepped i b f t
+    pub turned : (i : ℕ) (b : Course) (f : Store ℤ) (t : List ℤ) → i < l → Standing i f → AtStep x a0 c0 i f → TurnedBack i b f t
     -- neither looks at the loop's variable, at shadows or at helpers of its depth
-    pub standing : (i : ℕ) (f g : Store ℤ) → Beside f g → Standing i f → Standing i g
-    pub loose : (f g : Store ℤ) → Beside f g → Loose f → Loose g
+    pub standing : (i : ℕ) (f g : Store ℤ) → Beside d x f g → Standing i f → Standing i g
+    pub loose : (f g : Store ℤ) → Beside d x f g → Loose f → Loose g
     pub loosen : (i : ℕ) (f : Store ℤ) → Standing i f → Loose f
 
   abbrev pub all : List Action
@@ -215,71 +179,28 @@ module _ (q : Calls ℤ) (sh : Var → Shape) (level : ℕ) (d line : ℕ) (x : 
   inner i = P i + 2
 
   -- before the k-th action
-  pub record Ready (k : ℕ) (f : Store ℤ) : Type 0 where
-    pub count_is : f (helper count d) 0 ≡ pos l
-    pub first_is : f (helper first d) 0 ≡ a0
-    pub stride_is : f (helper stride d) 0 ≡ c0
-    pub slots_is : value nw (slots_of d mark) f ≡ Ok (pos m)
-    pub entry_is : f (helper entry d) 0 ≡ pos (suc k)
-
-  -- the action is known
-  abbrev told : Action → Store ℤ → Store ℤ
-  told a f = set (set (set f (helper kind d) 0 (pos (kind_of a))) (helper lower d) 0 (pos (lower_of a))) (helper upper d) 0 (pos (upper_of a))
-
-  and_no : (b c : Bool) → c ≡ false → (b && c) ≡ false
-  and_no true c h = h
-  and_no false c h = refl
-
-  -- a helper of this depth, or the loop's variable, is set
-  pub own_set : (r0 : Role) (v : ℤ) (f : Store ℤ) → Beside f (set f (helper r0 d) 0 v)
-  own_set r0 v f = record {
-    plains = λ y j n. refl;
-    helpers = λ r k c n. let e : ((role_code r == role_code r0) && (k == d)) ≡ false = and_no (role_code r == role_code r0) (k == d) n in rw e refl;
-  }
-
-  variable_set : (v : ℤ) (f : Store ℤ) → Beside f (set f (plain x) 0 v)
-  variable_set v f = record { plains = λ y j n. rw n refl; helpers = λ r k c n. refl }
-
-  pub beside_then : (f g h : Store ℤ) → Beside f g → Beside g h → Beside f h
-  beside_then f g h a b = record { plains = λ y j n. b.plains y j n ∙ a.plains y j n; helpers = λ r k c n. b.helpers r k c n ∙ a.helpers r k c n }
+  abbrev IsReady : ℕ → Store ℤ → Type 0
+  IsReady k f = Ready sh level d l m mark a0 c0 k f
 
   module _ (steps_fit : steps_of (pos l) ≡ Ok l) (snapshots_fit : snapshots_of (pos m) ≡ Ok m) (few : suc (suc (length all)) < 2 ^ 63) (small : suc l < 2 ^ 63) (s : Stepping) where
     abbrev These : Code
     These = arms line d (plain x) keep back plain_call adjoint
-
-    told_beside : (a : Action) (f : Store ℤ) → Beside f (told a f)
-    told_beside a f =
-        let f1 = set f (helper kind d) 0 (pos (kind_of a)) in
-        let f2 = set f1 (helper lower d) 0 (pos (lower_of a)) in
-        beside_then f f2 (told a f) (beside_then f f1 f2 (own_set kind (pos (kind_of a)) f) (own_set lower (pos (lower_of a)) f1)) (own_set upper (pos (upper_of a)) f2)
-
-    next_beside : (f : Store ℤ) → Beside f (next_store nw (helper entry d) (pos 1) f)
-    next_beside f = own_set entry (add (f (helper entry d) 0) (pos 1)) f
-
-    told_kind : (a : Action) (f : Store ℤ) → told a f (helper kind d) 0 ≡ pos (kind_of a)
-    told_kind a f = rw (nat_refl d) refl
-
-    told_lower : (a : Action) (f : Store ℤ) → told a f (helper lower d) 0 ≡ pos (lower_of a)
-    told_lower a f = rw (nat_refl d) refl
-
-    told_upper : (a : Action) (f : Store ℤ) → told a f (helper upper d) 0 ≡ pos (upper_of a)
-    told_upper a f = rw (nat_refl d) refl
 
     -- an action that was done, with the step of the loop after it
     abbrev next : Store ℤ → Store ℤ
     next f = next_store nw (helper entry d) (pos 1) f
 
     abbrev DoesOne : ℕ → (Store ℤ → Type 0) → ℕ → Course → Store ℤ → List ℤ → List ℤ → Type 0
-    DoesOne k end most b f t t1 = Played q sh level action (helper entry d) W inner A Ready 1 k end most b f t t1
+    DoesOne k end most b f t t1 = Played q sh level action (helper entry d) W inner A IsReady 1 k end most b f t t1
 
-    done : (k : ℕ) (end : Store ℤ → Type 0) (most most' : ℕ) (a : Action) (rest : List Action) (b b1 : Course) (f f1 : Store ℤ) (t t1 : List ℤ) → past k all ≡ a ∷ rest → Ready k f → b1.opened ≡ b.opened →
-        Takes q nw These (scene b (told a f) t) (scene b1 f1 t1) (5 + most) → SameFixed d (told a f) f1 → end (next f1) → 7 + most ≤ most' → DoesOne k end most' b f t t1
+    done : (k : ℕ) (end : Store ℤ → Type 0) (most most' : ℕ) (a : Action) (rest : List Action) (b b1 : Course) (f f1 : Store ℤ) (t t1 : List ℤ) → past k all ≡ a ∷ rest → IsReady k f → b1.opened ≡ b.opened →
+        Takes q nw These (scene b (told d a f) t) (scene b1 f1 t1) (5 + most) → SameFixed d (told d a f) f1 → end (next f1) → 7 + most ≤ most' → DoesOne k end most' b f t t1
     done k end most most' a rest b b1 f f1 t t1 at r shut g fixed e le =
         let less = past_less k all a rest at in
         let again : k + 1 ≡ suc k = omega arith in
         let up : add (pos (suc k)) (pos 1) ≡ pos (suc (suc k)) = count_up (suc k) (omega arith) in
         let found = at_past k all a rest at in
-        let body = takes_step q nw line (runtime (give_action (var (helper count d)) (slots_of d mark) (var (helper entry d)) (helper kind d) (helper lower d) (helper upper d))) These (scene b f t) (scene b (told a f) t) (scene b1 f1 t1) (5 + most)
+        let body = takes_step q nw line (runtime (give_action (var (helper count d)) (slots_of d mark) (var (helper entry d)) (helper kind d) (helper lower d) (helper upper d))) These (scene b f t) (scene b (told d a f) t) (scene b1 f1 t1) (5 + most)
         (λ j. rw (r.count_is, r.slots_is, r.entry_is, steps_fit, snapshots_fit, found) refl) g in
         let after = stepped nw (helper entry d) (pos 1) in
         record {
@@ -288,7 +209,7 @@ module _ (q : Calls ℤ) (sh : Var → Shape) (level : ℕ) (d line : ℕ) (x : 
           opened = shut;
           takes = turns_take_as q nw action after 1 1 (scene b f t) (scene b1 (next f1) t1) (1 + (1 + (5 + most)) + 0) most' refl (omega (arith, le))
               (turns_take_more q nw action after 0 (scene b f t) (scene b1 f1 t1) (scene b1 (next f1) t1) (1 + (5 + most)) 0 body (turns_take_none q nw action after (scene b1 (next f1) t1)));
-          ready = subst (λ n. Ready n (next f1)) (sym again) (record {
+          ready = subst (λ n. IsReady n (next f1)) (sym again) (record {
             count_is = fixed.count_is ∙ r.count_is;
             first_is = fixed.first_is ∙ r.first_is;
             stride_is = fixed.stride_is ∙ r.stride_is;
@@ -298,70 +219,67 @@ module _ (q : Calls ℤ) (sh : Var → Shape) (level : ℕ) (d line : ℕ) (x : 
           ends = e;
         }
 
-    stands_told : (i : ℕ) (a : Action) (f : Store ℤ) → Standing i f → Standing i (told a f)
-    stands_told i a f h = s.standing i f (told a f) (told_beside a f) h
+    stands_told : (i : ℕ) (a : Action) (f : Store ℤ) → Standing i f → Standing i (told d a f)
+    stands_told i a f h = s.standing i f (told d a f) (told_beside d x a f) h
 
     stands_next : (i : ℕ) (f : Store ℤ) → Standing i f → Standing i (next f)
-    stands_next i f h = s.standing i f (next f) (next_beside f) h
+    stands_next i f h = s.standing i f (next f) (next_beside d x sh level f) h
 
     loose_next : (f : Store ℤ) → Loose f → Loose (next f)
-    loose_next f h = s.loose f (next f) (next_beside f) h
-
-    same_refl : (f : Store ℤ) → SameFixed d f f
-    same_refl f = record { count_is = refl; first_is = refl; stride_is = refl; slots_is = refl; entry_is = refl; kind_is = refl }
+    loose_next f h = s.loose f (next f) (next_beside d x sh level f) h
 
     -- ---- snapshots
 
     abbrev Takes1 : ℕ → ℕ → ℕ → Course → Store ℤ → List ℤ → List ℤ → Type 0
-    Takes1 k i most b f t t1 = Taken q sh level action (helper entry d) W inner A Ready all l Standing Loose Snap k i most b f t t1
+    Takes1 k i most b f t t1 = Taken q sh level action (helper entry d) W inner A IsReady all l Standing Loose Snap k i most b f t t1
 
-    puts : (k i : ℕ) (rest : List Action) (b : Course) (f : Store ℤ) (t : List ℤ) → past k all ≡ Put i ∷ rest → Ready k f → Standing i f → Takes1 k i (7 + W) b f t t
+    puts : (k i : ℕ) (rest : List Action) (b : Course) (f : Store ℤ) (t : List ℤ) → past k all ≡ Put i ∷ rest → IsReady k f → Standing i f → Takes1 k i (7 + W) b f t t
     puts k i rest b f t at r h =
-        let f1 = told (Put i) f in
+        let f1 = told d (Put i) f in
         let p = s.pushed i f1 (stands_told i (Put i) f h) in
         record {
           snap = p.snap;
           is = p.is;
           played = done k (Standing i) W (7 + W) (Put i) rest b b f f1 t (p.snap ++ t) at r refl
-              (do_1 q sh level line d (plain x) keep back plain_call adjoint (scene b f1 t) (scene b f1 (p.snap ++ t)) W (told_kind (Put i) f) (told_kind (Put i) f) (p.pushes b t))
-              (same_refl f1) (stands_next i f1 (stands_told i (Put i) f h)) (omega arith);
+              (do_1 q sh level line d (plain x) keep back plain_call adjoint (scene b f1 t) (scene b f1 (p.snap ++ t)) W (told_kind d (Put i) f) (told_kind d (Put i) f) (p.pushes b t))
+              (fixed_none d f1) (stands_next i f1 (stands_told i (Put i) f h)) (omega arith);
         }
 
-    drops : (k i : ℕ) (rest : List Action) (b : Course) (f : Store ℤ) (snap t : List ℤ) → past k all ≡ Drop i ∷ rest → Ready k f → Loose f → Snap i snap → DoesOne k (Standing i) (7 + W) b f (snap ++ t) t
+    drops : (k i : ℕ) (rest : List Action) (b : Course) (f : Store ℤ) (snap t : List ℤ) → past k all ≡ Drop i ∷ rest → IsReady k f → Loose f → Snap i snap → DoesOne k (Standing i) (7 + W) b f (snap ++ t) t
     drops k i rest b f snap t at r h is =
-        let f1 = told (Drop i) f in
-        let p = s.popped i snap f1 is (s.loose f f1 (told_beside (Drop i) f) h) in
+        let f1 = told d (Drop i) f in
+        let p = s.popped i snap f1 is (s.loose f f1 (told_beside d x (Drop i) f) h) in
         done k (Standing i) W (7 + W) (Drop i) rest b b f p.after (snap ++ t) t at r refl
-        (do_5 q sh level line d (plain x) keep back plain_call adjoint (scene b f1 (snap ++ t)) (scene b p.after t) W (told_kind (Drop i) f) (p.pops b t))
+        (do_5 q sh level line d (plain x) keep back plain_call adjoint (scene b f1 (snap ++ t)) (scene b p.after t) W (told_kind d (Drop i) f) (p.pops b t))
         (fixed_of d f1 p.after p.helpers) (stands_next i p.after p.stands) (omega arith)
 
-    keeps : (k i : ℕ) (rest : List Action) (b : Course) (f : Store ℤ) (snap t : List ℤ) → past k all ≡ Keep i ∷ rest → Ready k f → Loose f → Snap i snap → Takes1 k i (7 + 2 * W) b f (snap ++ t) t
+    keeps : (k i : ℕ) (rest : List Action) (b : Course) (f : Store ℤ) (snap t : List ℤ) → past k all ≡ Keep i ∷ rest → IsReady k f → Loose f → Snap i snap → Takes1 k i (7 + 2 * W) b f (snap ++ t) t
     keeps k i rest b f snap t at r h is =
-        let f1 = told (Keep i) f in
-        let p = s.popped i snap f1 is (s.loose f f1 (told_beside (Keep i) f) h) in
+        let f1 = told d (Keep i) f in
+        let p = s.popped i snap f1 is (s.loose f f1 (told_beside d x (Keep i) f) h) in
         let w = s.pushed i p.after p.stands in
         record {
           snap = w.snap;
           is = w.is;
           played = done k (Standing i) (W + W) (7 + 2 * W) (Keep i) rest b b f p.after (snap ++ t) (w.snap ++ t) at r refl
-              (do_4 q sh level line d (plain x) keep back plain_call adjoint (scene b f1 (snap ++ t)) (scene b p.after (w.snap ++ t)) (W + W) (told_kind (Keep i) f) (p.helpers.at kind d 0 ∙ told_kind (Keep i) f)
+              (do_4 q sh level line d (plain x) keep back plain_call adjoint (scene b f1 (snap ++ t)) (scene b p.after (w.snap ++ t)) (W + W) (told_kind d (Keep i) f) (p.helpers.at kind d 0 ∙ told_kind d (Keep i) f)
               (takes_append q nw back keep (scene b f1 (snap ++ t)) (scene b p.after t) (scene b p.after (w.snap ++ t)) W W (p.pops b t) (w.pushes b t)))
               (fixed_of d f1 p.after p.helpers) (stands_next i p.after p.stands) (omega arith);
         }
 
     -- ---- the adjoint of a step
 
-    turns_done : (k i : ℕ) (rest : List Action) (b : Course) (f : Store ℤ) (t : List ℤ) → past k all ≡ Turn i ∷ rest → i < l → Ready k f → Standing i f → DoesOne k Loose (8 + A i) b f t t
+    turns_done : (k i : ℕ) (rest : List Action) (b : Course) (f : Store ℤ) (t : List ℤ) → past k all ≡ Turn i ∷ rest → i < l → IsReady k f → Standing i f → DoesOne k Loose (8 + A i) b f t t
     turns_done k i rest b f t at less r h =
-        let f1 = told (Turn i) f in
+        let f1 = told d (Turn i) f in
         let v = add (f1 (helper first d) 0) (mul (f1 (helper lower d) 0) (f1 (helper stride d) 0)) in
         let f2 = set f1 (plain x) 0 v in
-        let v_is : v ≡ add a0 (mul (pos i) c0) = λ j. add (r.first_is j) (mul (told_lower (Turn i) f j) (r.stride_is j)) in
-        let value : AtStep i f2 = rw (name_refl x) v_is in
-        let stands2 : Standing i f2 = s.standing i f f2 (beside_then f f1 f2 (told_beside (Turn i) f) (variable_set v f1)) h in
+        let v_is : v ≡ add a0 (mul (pos i) c0) = λ j. add (r.first_is j) (mul (told_lower d (Turn i) f j) (r.stride_is j)) in
+        let value : AtStep x a0 c0 i f2 = rw (name_refl x) v_is in
+        let stands2 : Standing i f2 = s.standing i f f2 (beside_then d x f f1 f2 (told_beside d x (Turn i) f) (variable_set d x v f1)) h in
         let c = s.turned i b f2 t less stands2 value in
         done k Loose (1 + A i) (8 + A i) (Turn i) rest b c.later f c.after t t at r c.opened
-        (do_3 q sh level line d (plain x) keep back plain_call adjoint (scene b f1 t) (scene c.later c.after t) (1 + A i) (told_kind (Turn i) f) (c.helpers.at kind d 0 ∙ told_kind (Turn i) f)
+        (do_3 q sh level line d (plain x) keep back plain_call adjoint (scene b f1 t) (scene c.later c.after t) (1 + A i) (told_kind d (Turn i) f) (c.helpers.at kind d 0 ∙ told_kind d (Turn i) f)
         (takes_step q nw line (assign (plain x) none (bin plus (var (helper first d)) (bin times (var (helper lower d)) (var (helper stride d))))) adjoint (scene b f1 t) (scene b f2 t) (scene c.later c.after t) (A i) (λ j. refl) c.takes))
         (fixed_of d f1 c.after (record { at = λ r k n. c.helpers.at r k n })) (loose_next c.after c.loose) (omega arith)
 
@@ -382,14 +300,14 @@ module _ (q : Calls ℤ) (sh : Var → Shape) (level : ℕ) (d line : ℕ) (x : 
       opened = refl;
       takes = turns_take_none q nw (at_turn line d (plain x) turn plain_call) (stepped nw (helper turn d) (pos 1)) (scene b f t);
       stands = let e : i + 0 ≡ i = omega arith in subst (λ z. Standing z f) (sym e) h;
-      fixed = same_refl f;
+      fixed = fixed_none d f;
     }
     advanced (suc n) i b f t less number_is first_is stride_is h =
         let v = add (f (helper first d) 0) (mul (f (helper turn d) 0) (f (helper stride d) 0)) in
         let f2 = set f (plain x) 0 v in
         let v_is : v ≡ add a0 (mul (pos i) c0) = λ j. add (first_is j) (mul (number_is j) (stride_is j)) in
-        let value : AtStep i f2 = rw (name_refl x) v_is in
-        let stands2 : Standing i f2 = s.standing i f f2 (variable_set v f) h in
+        let value : AtStep x a0 c0 i f2 = rw (name_refl x) v_is in
+        let stands2 : Standing i f2 = s.standing i f f2 (variable_set d x v f) h in
         let c = s.stepped i b f2 t (omega arith) stands2 value in
         let body = at_turn line d (plain x) turn plain_call in
         let after = stepped nw (helper turn d) (pos 1) in
@@ -397,7 +315,7 @@ module _ (q : Calls ℤ) (sh : Var → Shape) (level : ℕ) (d line : ℕ) (x : 
         let f3 = next_store nw (helper turn d) (pos 1) c.after in
         let up : add (pos i) (pos 1) ≡ pos (suc i) = count_up i (omega arith) in
         let number3 : f3 (helper turn d) 0 ≡ pos (suc i) = rw (nat_refl d) (ap (λ z. add z (pos 1)) (c.helpers.at turn d 0 ∙ number_is) ∙ up) in
-        let stands3 : Standing (suc i) f3 = s.standing (suc i) c.after f3 (own_set turn (add (c.after (helper turn d) 0) (pos 1)) c.after) c.stands in
+        let stands3 : Standing (suc i) f3 = s.standing (suc i) c.after f3 (own_set d x turn (add (c.after (helper turn d) 0) (pos 1)) c.after) c.stands in
         let r = advanced n (suc i) c.later f3 t (omega arith) number3 (c.helpers.at first d 0 ∙ first_is) (c.helpers.at stride d 0 ∙ stride_is) stands3 in
         let sum : suc i + n ≡ i + suc n = omega arith in
         record {
@@ -410,29 +328,22 @@ module _ (q : Calls ℤ) (sh : Var → Shape) (level : ℕ) (d line : ℕ) (x : 
           fixed = fixed_then d f f3 r.after (record { count_is = c.helpers.at count d 0; first_is = c.helpers.at first d 0; stride_is = c.helpers.at stride d 0; slots_is = c.helpers.at slots d 0; entry_is = c.helpers.at entry d 0; kind_is = c.helpers.at kind d 0 }) r.fixed;
         }
 
-    trips_between : (i n : ℕ) → i + n < l → trips unmarked (pos i) (sub (pos (i + n)) (pos 1)) (pos 1) ≡ Ok n
-    trips_between i n less =
-        let last : sub (pos (i + n)) (pos 1) ≡ pos (i + n) -ℤ pos 1 = last_of (i + n) (omega arith) in
-        let many : trip_count (pos i) (sub (pos (i + n)) (pos 1)) (pos 1) ≡ n = ap (λ z. trip_count (pos i) z (pos 1)) last ∙ trips_up i (i + n) ∙ (let e : i + n - i ≡ n = omega arith in e) in
-        let ok : nat_le n 9223372036854775807 ≡ true = grind arith in
-        rw many (rw ok refl)
-
-    advances_done : (k i n : ℕ) (rest : List Action) (b : Course) (f : Store ℤ) (t : List ℤ) → past k all ≡ Advance i (i + n) ∷ rest → i + n < l → Ready k f → Standing i f → DoesOne k (Standing (i + n)) (8 + sum_of inner i n) b f t t
+    advances_done : (k i n : ℕ) (rest : List Action) (b : Course) (f : Store ℤ) (t : List ℤ) → past k all ≡ Advance i (i + n) ∷ rest → i + n < l → IsReady k f → Standing i f → DoesOne k (Standing (i + n)) (8 + sum_of inner i n) b f t t
     advances_done k i n rest b f t at less r h =
-        let f1 = told (Advance i (i + n)) f in
+        let f1 = told d (Advance i (i + n)) f in
         let word : wrap (pos i) ≡ pos i = wrap_word (pos i) (word-count i (omega arith)) in
         let f2 = set f1 (helper turn d) 0 (wrap (f1 (helper lower d) 0)) in
         let number : f2 (helper turn d) 0 ≡ pos i = rw (nat_refl d) word in
-        let stands2 : Standing i f2 = s.standing i f f2 (beside_then f f1 f2 (told_beside (Advance i (i + n)) f) (own_set turn (wrap (f1 (helper lower d) 0)) f1)) h in
+        let stands2 : Standing i f2 = s.standing i f f2 (beside_then d x f f1 f2 (told_beside d x (Advance i (i + n)) f) (own_set d x turn (wrap (f1 (helper lower d) 0)) f1)) h in
         let c = advanced n i b f2 t less number r.first_is r.stride_is stands2 in
-        let kind_after : c.after (helper kind d) 0 ≡ pos 2 = c.fixed.kind_is ∙ told_kind (Advance i (i + n)) f in
+        let kind_after : c.after (helper kind d) 0 ≡ pos 2 = c.fixed.kind_is ∙ told_kind d (Advance i (i + n)) f in
         done k (Standing (i + n)) (1 + sum_of inner i n) (8 + sum_of inner i n) (Advance i (i + n)) rest b c.later f c.after t t at r c.opened
-        (do_2 q sh level line d (plain x) keep back plain_call adjoint (scene b f1 t) (scene c.later c.after t) (1 + sum_of inner i n) (told_kind (Advance i (i + n)) f) kind_after
+        (do_2 q sh level line d (plain x) keep back plain_call adjoint (scene b f1 t) (scene c.later c.after t) (1 + sum_of inner i n) (told_kind d (Advance i (i + n)) f) kind_after
         (takes_one q nw line (loop (helper turn d) (var (helper lower d)) (bin minus (var (helper upper d)) (literal 1)) (literal 1) (at_turn line d (plain x) turn plain_call) unmarked) (scene b f1 t) (scene c.later c.after t) (sum_of inner i n)
         (loop_takes q nw line (helper turn d) (var (helper lower d)) (bin minus (var (helper upper d)) (literal 1)) (literal 1) (at_turn line d (plain x) turn plain_call) (scene b f1 t) (scene c.later c.after t) (f1 (helper lower d) 0) (sub (f1 (helper upper d) 0) (pos 1)) (pos 1) n (sum_of inner i n)
-        refl refl refl (ap (λ z. trips unmarked z (sub (f1 (helper upper d) 0) (pos 1)) (pos 1)) (told_lower (Advance i (i + n)) f) ∙ ap (λ z. trips unmarked (pos i) (sub z (pos 1)) (pos 1)) (told_upper (Advance i (i + n)) f) ∙ trips_between i n less) c.takes)))
+        refl refl refl (ap (λ z. trips unmarked z (sub (f1 (helper upper d) 0) (pos 1)) (pos 1)) (told_lower d (Advance i (i + n)) f) ∙ ap (λ z. trips unmarked (pos i) (sub z (pos 1)) (pos 1)) (told_upper d (Advance i (i + n)) f) ∙ trips_between l i n small less) c.takes)))
         (record { count_is = c.fixed.count_is; first_is = c.fixed.first_is; stride_is = c.fixed.stride_is; slots_is = c.fixed.slots_is; entry_is = c.fixed.entry_is; kind_is = c.fixed.kind_is })
         (stands_next (i + n) c.after c.stands) (omega arith)
 
-    pub acts : Acts q sh level action (helper entry d) W inner A Ready all l Standing Loose Snap
+    pub acts : Acts q sh level action (helper entry d) W inner A IsReady all l Standing Loose Snap
     acts = record { puts = puts; advances = advances_done; turns = turns_done; keeps = keeps; drops = drops }

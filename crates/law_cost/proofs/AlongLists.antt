@@ -33,7 +33,7 @@ use Rattle.def_sweep.specs.ReversalCode.{row_forward, row_backward}
 use Rattle.def_sweep.specs.Callees.{nothing, is_plain, CalleeFacts}
 use Rattle.law_sweep.specs.Laws.{WayLaws, point_inside, last_point, ChoiceLaws, LoopLaws, WhileLaws, CallLaws, CallLawsBy, StepLaws, ActLawsBy, ListLawsBy}
 use Rattle.law_sweep.specs.Passing.{plainly}
-use Rattle.law_sweep.specs.Kernel.{CallFits, LoopFits, ReversalFits, IsThere, FitsBy, FitsListBy, AllText}
+use Rattle.law_sweep.specs.Kernel.{CallFits, LoopFits, ReversalFits, FitsBy, FitsListBy, AllText}
 use Rattle.def_sweep.specs.MarkedUnits.{units_of}
 use Rattle.def_sweep.specs.Reversals.{ReversedLines, LoopRun}
 use Rattle.law_sweep.specs.Runs.{SameOn}
@@ -51,6 +51,7 @@ use Rattle.law_sweep.proofs.Tests.{most_small}
 use Rattle.law_sweep.proofs.Transposed.{Transposed, transposed_to}
 use Rattle.law_sweep.proofs.WhileSweeps as whiles
 use Rattle.law_sweep.proofs.WhileSweeps.{TestsSwept}
+use Rattle.law_sweep.proofs.Lists.{unsplit_there}
 use Rattle.law_cost.specs.Sweeps.{statements_of}
 use Rattle.law_cost.specs.Along.{BothCost}
 use Rattle.law_cost.proofs.Counting.{some_nodes, three_nodes}
@@ -84,10 +85,6 @@ straight_behind x line true true = (tt, tt)
 straight_behind x line true false = (tt, tt)
 straight_behind x line false true = tt
 straight_behind x line false false = tt
-
--- what is emitted for a call that isn't split
-pub unsplit_there : (split answered paired carried present adjointed kept : Bool) → split ≡ false → IsThere split answered paired carried present adjointed kept → IsThere false answered paired carried present adjointed kept
-unsplit_there split a p c r t k h there = subst (λ b. IsThere b a p c r t k) h there
 
 module _ (sb : Bool) (extra : Act → ℕ) (more : (a : Act) → own_nodes a ≤ extra a) (reps : ℕ) (inside : List ℕ → Bool) (ps qs : List Procedure) (depth : ℕ) (lines : ReversedLines) (handed : Dummies) (callees : List ℕ → CalleeFacts) (answers paired carried : List ℕ → Bool) (w : Facts) (present : Bool) (vars : List (List ℕ)) (arrays : Vars) (sh : Var → Shape) (level : ℕ) (xs : List Key) (known : KnowsArrays (plan_of callees w arrays) sh) (rate : ℕ) (four : 4 ≤ rate) where
   abbrev sc : Schedules

@@ -58,7 +58,7 @@ use Rattle.law_cost.specs.Along.{BothCost}
 use Rattle.law_cost.proofs.Along.{cost_more}
 use Rattle.law_cost.proofs.AlongCalls.{cost_call}
 use Rattle.law_cost.proofs.CallCosts.{plain_cost, adjoint_cost}
-use Rattle.law_cost.proofs.CallFacts.{read_actual, fit_of, fit_size}
+use Rattle.law_sweep.proofs.CallFacts.{read_actual, fit_of, fit_size}
 use Rattle.law_cost.proofs.Counting.{act_few}
 use Rattle.law_cost.proofs.Bare.{bare_list}
 use Rattle.law_cost.proofs.Moved.{CallsMove, calls_move}

@@ -1,6 +1,6 @@
 -- What the row of a reversed loop takes in the backward sweep.
 use Rattle.std.proofs.Common.{◌≡◌, ◌≤◌, ◌<◌, ◌^◌, ℕ, suc, ◌+◌, ◌*◌, false, List, ◌∷◌, ◌++◌, length, refl, sym, ap, ◌∙◌, subst, arith}
-use Rattle.std.specs.Prelude.{ℤ, pos, Ok, ◌&&◌, ◌||◌, Some}
+use Rattle.std.specs.Prelude.{ℤ, pos, Ok, ◌&&◌, Some}
 use Rattle.adj_tree.specs.Code.{Var, plain, helper, first, stride, count, slots, name_eq, none, Mark, Term, call, runtime, pop_word, Code}
 use Rattle.adj_tree.proofs.Names.{nat_refl}
 use Rattle.adj_revolve.specs.Binomial.{beta}
@@ -13,11 +13,11 @@ use Rattle.def_meaning.specs.Runtime.{steps_of, snapshots_of}
 use Rattle.law_meaning.proofs.Leadings.{leads_step}
 use Rattle.def_names.specs.Numbers.{Vars, everything}
 use Rattle.def_names.specs.Numbering.{point_before, point_after}
-use Rattle.def_sweep.specs.Facts.{In, joined, Facts}
+use Rattle.def_sweep.specs.Facts.{joined, Facts}
 use Rattle.def_meaning.specs.Apart.{AreApart}
 use Rattle.law_sweep.specs.Pairs.{Key, Words, on_words}
 use Rattle.law_sweep.specs.Scenes.{Course, scene}
-use Rattle.def_sweep.specs.Plan.{Plan, beside, IsActual, actuals_named, group, save_group, writes_actual}
+use Rattle.def_sweep.specs.Plan.{Plan, actuals_named, group, save_group, writes_actual}
 use Rattle.def_sweep.specs.Rows.{pushes, pops, pop_own, adjoint_call}
 use Rattle.def_sweep.specs.ReversalCode.{slots_of, pop_slots, reversal, reversed_backward}
 use Rattle.law_sweep.specs.Laws.{just, ReversedLaws}
@@ -27,10 +27,10 @@ use Rattle.law_sweep.specs.Passing.{plainly}
 use Rattle.law_sweep.specs.Runs.{SameOn, SameOff}
 use Rattle.def_sweep.specs.Reversals.{LoopRun}
 use Rattle.law_sweep.specs.Steps.{Steps}
-use Rattle.law_sweep.proofs.Passing.{beside_back}
 use Rattle.law_sweep.proofs.Snapshots.{KnowsArrays, group_pushed}
 use Rattle.law_sweep.proofs.Slots.{slots_trail, with_slots, slots_same, slots_are, slots_popped}
 use Rattle.law_sweep.proofs.StepUnits.{Loose, popped_stands}
+use Rattle.law_sweep.proofs.ReversedRows.{stood, left_standing}
 use Rattle.law_cost.specs.Sweeps.{statements_of}
 use Rattle.law_cost.proofs.AlongCalls.{straight_pops}
 use Rattle.law_cost.proofs.Runs.{IsStraight}
@@ -98,13 +98,6 @@ module _ (q : Calls ℤ) (sh : Var → Shape) (level : ℕ) (cells : List Key) (
   actions = (30 + 2 * W) * l + r * sum_of (λ z. 1 + P z + 2) 0 l + sum_of (λ z. 1 + A z) 0 l
 
   module _ (f to : Store ℤ) (same : SameOn sh (w.needed (point_before i)) u f) (off : SameOff (joined (just (plain x)) wr) f to) where
-    free : (e a : List ℕ) → IsActual ds given e a → g.callee.written (plain e) ≡ false → wr (plain a) ≡ false
-    free e a b v = let back : beside given ds a ≡ Some e = beside_back ds given apart apart' e a b in rw (back, v) refl
-
-    -- what is called for was before the loop as in the program
-    stands : (e a : List ℕ) → IsActual ds given e a → In (plain e) reached → name_eq a x ≡ false → (j : ℕ) → j < size_of (sh (plain a)) → f (plain a) j ≡ U 0 (plain a) j
-    stands e a b n o j lt = same.at a j lt (laws.needs_members e a b n o) ∙ sym (starts a j o)
-
     pub record BackTakes (base : Course) (h : Store ℤ) (t t' : List ℤ) : Type 0 where
       pub after : Store ℤ
       pub later : Course
@@ -127,13 +120,10 @@ module _ (q : Calls ℤ) (sh : Var → Shape) (level : ℕ) (cells : List Key) (
         let k = taken.popped h3 in
         let h4 = k.after in
         let loose3 : Loose q sh level cells d line p known x one_cell l m mark a0 c0 g given apart apart' name change loops U U' h3 h3 = record {
-          at = λ e a b n v o j lt.
-              let z = free e a b v in
-              let kept_off : (name_eq a x || wr (plain a)) ≡ false = rw (o, z) refl in
-              held.at a j lt (laws.holds_reads e a b n v o) ∙ off.at a j kept_off ∙ stands e a b n o j lt;
+          at = λ e a b n v o j lt. held.at a j lt (laws.holds_reads e a b n v o) ∙ left_standing sh x mark g given apart apart' U w i ea eb ec laws u starts f to same off e a b n v o j lt;
           framed = record { off = record { at = λ y j o. refl }; depth = record { at = λ r n c lt le. refl } };
         } in
-        let stands4 = popped_stands q sh level cells d line p known x one_cell l m mark a0 c0 g given apart apart' name change loops U U' h3 s x_free 0 f h3 h4 (omega arith) stands loose3 k.restored in
+        let stands4 = popped_stands q sh level cells d line p known x one_cell l m mark a0 c0 g given apart apart' name change loops U U' h3 s x_free 0 f h3 h4 (omega arith) (stood sh x mark g given apart apart' U w i ea eb ec laws u starts f to same off) loose3 k.restored in
         let gc = group_few (λ v. g.callee.written v && reached v) everything ds given in
         let push_few : statements_of (pushes p line snap) ≤ W = let b = pushes_count p line snap in omega (arith, b, gc) in
         let pop_few : statements_of (pops p line snap) ≤ W = let b = pops_count p line snap in omega (arith, b, gc) in

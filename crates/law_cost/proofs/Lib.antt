@@ -26,9 +26,7 @@ pub mod Rows
 pub mod Prices
 pub mod CallPrices
 pub mod CallCosts
-pub mod CallFacts
 pub mod AlongLists
-pub mod StepCalls
 pub mod StepRuns
 pub mod Fair
 pub mod Reversed

@@ -14,20 +14,10 @@ use Rattle.def_meaning.specs.Scene.{Scene}
 use Rattle.def_meaning.specs.Run.{Calls, stepped}
 use Rattle.law_sweep.specs.Pairs.{on_words}
 use Rattle.law_sweep.specs.Scenes.{Course, scene}
-use Rattle.law_sweep.proofs.Playing.{past}
+use Rattle.law_sweep.proofs.Playing.{past, past_some}
 use Rattle.law_cost.specs.Sums.{sum_of}
 use Rattle.law_cost.proofs.Sums.{sum_join, times_sum, times_more, one_more}
 use Rattle.law_cost.proofs.Takes.{TurnsTake, turns_take_none, turns_take_append, turns_take_as}
-
-past_one : (k : ℕ) (list : List Action) (a : Action) (rest : List Action) → past k list ≡ a ∷ rest → past (suc k) list ≡ rest
-past_one zero [] a rest h = cc
-past_one zero (b ∷ list) a rest h = cc
-past_one (suc k) [] a rest h = cc
-past_one (suc k) (b ∷ list) a rest h = past_one k list a rest h
-
-past_some : (xs : List Action) (k : ℕ) (list rest : List Action) → past k list ≡ xs ++ rest → past (k + length xs) list ≡ rest
-past_some [] k list rest h = let e : k + 0 ≡ k = omega arith in ap (λ z. past z list) e ∙ h
-past_some (a ∷ xs) k list rest h = let e : k + suc (length xs) ≡ suc k + length xs = omega arith in ap (λ z. past z list) e ∙ past_some xs (suc k) list rest (past_one k list a (xs ++ rest) h)
 
 -- a snapshot is pushed, and popped, by at most W statements; the turn of an advance over step i takes Q i at most, and the adjoint of it A i
 module _ (q : Calls ℤ) (sh : Var → Shape) (level : ℕ) (action : Code) (entry : Var) (W : ℕ) (Q A : ℕ → ℕ) (Ready : ℕ → Store ℤ → Type 0) where

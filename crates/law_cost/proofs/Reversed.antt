@@ -1,7 +1,7 @@
 -- What both sweeps of a reversed loop take, along a run that is done and at its price.
-use Rattle.std.proofs.Common.{◌≡◌, ◌<◌, ◌≤◌, ℕ, zero, suc, ◌+◌, ◌-◌, ◌*◌, Bool, true, false, List, map, [], ◌∷◌, refl, sym, ap, ◌∙◌, subst, arith}
-use Rattle.std.specs.Prelude.{ℤ, ◌&&◌, ◌||◌, Some, IsTrue, Ok, length, if◌then◌else◌}
-use Rattle.adj_tree.specs.Code.{Var, plain, name_eq, Term, Mark, Act, loop, call, runtime, push_word, pop_word, Code, stop, none, Procedure}
+use Rattle.std.proofs.Common.{◌≡◌, ◌<◌, ◌≤◌, ℕ, zero, suc, ◌+◌, ◌-◌, ◌*◌, Bool, true, false, List, map, refl, sym, ap, ◌∙◌, subst, arith}
+use Rattle.std.specs.Prelude.{ℤ, ◌&&◌, ◌||◌, Some, IsTrue, Ok, length}
+use Rattle.adj_tree.specs.Code.{Var, plain, Term, Mark, Act, loop, call, runtime, push_word, pop_word, Code, stop, none, Procedure}
 use Rattle.adj_word.specs.Word.{wrap, add}
 use Rattle.adj_revolve.specs.Binomial.{beta}
 use Rattle.def_meaning.specs.Append.{◌+++◌, one}
@@ -23,12 +23,12 @@ use Rattle.def_meaning.specs.Apart.{AreApart}
 use Rattle.law_sweep.specs.Pairs.{Key, on_words}
 use Rattle.law_sweep.specs.Scenes.{Course, scene}
 use Rattle.def_names.proofs.Variables.{or_false}
-use Rattle.def_sweep.specs.Plan.{Plan, beside, found_or, IsActual, actuals_named, Schedules, Step, reversed_by, writes_actual}
+use Rattle.def_sweep.specs.Plan.{Plan, IsActual, actuals_named, Schedules, Step, reversed_by, writes_actual}
 use Rattle.def_sweep.specs.Rows.{adjoint_call, reset}
 use Rattle.def_sweep.specs.ReversalCode.{row_forward, row_backward}
 use Rattle.def_sweep.specs.Callees.{CalleeFacts}
 use Rattle.law_sweep.specs.Laws.{ReversedLaws, StepLaws}
-use Rattle.law_sweep.specs.Kernel.{AsMany, CallFits, LoopFits, ReversalFits, IsThere, FitsListBy}
+use Rattle.law_sweep.specs.Kernel.{CallFits, LoopFits, ReversalFits, IsThere, FitsListBy}
 use Rattle.def_sweep.specs.MarkedUnits.{units_of}
 use Rattle.law_sweep.specs.Passing.{plainly}
 use Rattle.def_sweep.specs.Reversals.{ReversedLines}
@@ -42,7 +42,9 @@ use Rattle.law_sweep.proofs.Snapshots.{KnowsArrays}
 use Rattle.law_sweep.proofs.Loops.{turning}
 use Rattle.law_sweep.proofs.PlainCalls.{at_any_line}
 use Rattle.law_sweep.proofs.Slots.{slots_found, slots_marked}
-use Rattle.law_sweep.proofs.StepRuns.{Chosen, choose_each, turns_few}
+use Rattle.law_sweep.proofs.StepRuns.{StepsRun, steps_run, Chosen, choose_each, turns_few}
+use Rattle.law_sweep.proofs.StepCalls as made
+use Rattle.law_sweep.proofs.Lists.{unwritten_actual, unsplit_there}
 use Rattle.law_cost.specs.Along.{BothCost}
 use Rattle.law_cost.specs.Sweeps.{statements_of}
 use Rattle.law_cost.proofs.Along.{cost_more, cost_around}
@@ -53,23 +55,10 @@ use Rattle.law_cost.specs.Rows.{StepsTake, row_takes}
 use Rattle.law_cost.specs.Sums.{sum_of}
 use Rattle.law_cost.proofs.Fair.{named_nodes, turn_price, loop_fair}
 use Rattle.law_cost.proofs.Few.{FewIn, CallsTell, same_few, run_tells}
-use Rattle.law_cost.proofs.AlongLists.{around_few, pushes_before, straight_behind, unsplit_there, LoopCostsBy, forth_by, back_by}
+use Rattle.law_cost.proofs.AlongLists.{around_few, pushes_before, straight_behind, LoopCostsBy, forth_by, back_by}
 use Rattle.law_cost.proofs.Prices.{ActPays, TurnsPay, pays_stop, pays_step, turns_pay_none, turns_pay_more, pays_loop}
 use Rattle.law_cost.proofs.Rows.{reversed_rows_cost}
-use Rattle.law_cost.proofs.StepCalls as made
-use Rattle.law_cost.proofs.StepRuns.{StepsRun, steps_run}
-
--- an actual that isn't handed back isn't written
-unwritten_actual : (f : List ℕ → Bool) (x : List ℕ) (ds given : List (List ℕ)) → AsMany ds given → is_handed_back (plain x) (map f ds) (actuals_named given) ≡ false → found_or (beside given ds x) false f ≡ false
-unwritten_actual f x [] [] m h = refl
-unwritten_actual f x [] (a ∷ given) m h = absurd m
-unwritten_actual f x (d ∷ ds) [] m h = absurd m
-unwritten_actual f x (d ∷ ds) (a ∷ given) m h = go (name_eq x a) refl (f d) refl (or_false (f d && name_eq x a) (is_handed_back (plain x) (map f ds) (actuals_named given)) h) (unwritten_actual f x ds given m)
-  where
-    go : (b : Bool) → name_eq x a ≡ b → (t : Bool) → f d ≡ t → ((f d && name_eq x a) ≡ false) × (is_handed_back (plain x) (map f ds) (actuals_named given) ≡ false) → (is_handed_back (plain x) (map f ds) (actuals_named given) ≡ false → found_or (beside given ds x) false f ≡ false) → found_or (if b then Some d else beside given ds x) false f ≡ false
-    go true e true t o ih = absurd (let c : true ≡ false = sym (rw (e, t) refl) ∙ o.0 in cc)
-    go true e false t o ih = t
-    go false e t et o ih = ih o.1
+use Rattle.law_cost.proofs.StepRuns.{steps_spent}
 
 -- what the call of a step costs besides its own statement, and what its adjoint takes
 pub record StepPrice : Type 0 where
@@ -240,7 +229,7 @@ module _ (sb : Bool) (extra : Act → ℕ) (more : (a : Act) → own_nodes a ≤
 
       all_least : k ≤ left + sum_of each_price 0 l
       all_least =
-          let v = r.spent (λ i. P i + 1) (λ j less. let u = made_turns.is j less in let a = u.turn.is in let h = u.costs.least in omega (arith, a, h)) in
+          let v = steps_spent l k left r.given r.left (λ i. P i + 1) (λ i less. r.counted i less) r.counted_all (λ j less. let u = made_turns.is j less in let a = u.turn.is in let h = u.costs.least in omega (arith, a, h)) in
           let u = few_prices l 0 in
           omega (arith, v, u)
 
@@ -309,10 +298,10 @@ module _ (sb : Bool) (extra : Act → ℕ) (more : (a : Act) → own_nodes a ≤
         row = subst (λ (z : Vars). let v : Step = record { name = t.name; given = t.given; read = z; mark = t.mark } in BothCost q sh level (row_forward plan i (suc d) line x a b c v) (row_backward plan i (suc d) line x v) needed held s.store (row_takes (length t.given) P A l reps)) (sym read_is)
             (reversed_rows_cost qs depth sh level xs line x callees t.given t.name w arrays fits i d a b c t.mark rf.slots rl lf.text_first lf.text_last lf.text_step l m0 (turns_few t.mark a0 b0 c0 l (slots_marked t.mark rf.slots) is_l)
             s.store a0 b0 c0 is_a is_b is_c (turning t.mark a0 b0 c0 l is_l).plainly force_is
-            (made.change_at q (at_any_line qs depth) lines dual sh level xs g t.given t.name line at x x_free l a0 c0 s.store U U' starts nexts each)
-            (made.loops_at q (at_any_line qs depth) lines dual sh level xs g t.given t.name line at x x_free l a0 c0 s.store U U' starts nexts each)
+            (made.change_at q (at_any_line qs depth) lines dual sh level xs g t.given t.name true line at x x_free l a0 c0 s.store U U' starts nexts each)
+            (made.loops_at q (at_any_line qs depth) lines dual sh level xs g t.given t.name true line at x x_free l a0 c0 s.store U U' starts nexts each)
             U U' starts nexts
-            (made.steps q (at_any_line qs depth) lines dual sh level xs g t.given t.name line at x x_free l a0 c0 s.store U U' starts nexts each)
+            (made.steps q (at_any_line qs depth) lines dual sh level xs g t.given t.name true line at x x_free l a0 c0 s.store U U' starts nexts each refl)
             P A takes reps enough)
 
         abbrev pushing : Code

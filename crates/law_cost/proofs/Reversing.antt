@@ -1,11 +1,11 @@
 -- What a reversal as a whole takes.
-use Rattle.std.proofs.Common.{◌≡◌, ◌<◌, ◌≤◌, ◌^◌, ℕ, suc, ◌+◌, ◌*◌, true, List, ◌∷◌, length, refl, ap, ◌∙◌, arith}
-use Rattle.std.specs.Prelude.{ℤ, pos, nat_le, Ok}
+use Rattle.std.proofs.Common.{◌≡◌, ◌<◌, ◌≤◌, ◌^◌, ℕ, suc, ◌+◌, ◌*◌, List, ◌∷◌, length, refl, ap, ◌∙◌, arith}
+use Rattle.std.specs.Prelude.{ℤ, pos, Ok}
 use Rattle.adj_tree.specs.Code.{Var, plain, helper, first, stride, count, entry, entries, var, Mark, unmarked, loop, runtime, begin_reversal, count_actions, end_reversal, Code, stop}
 use Rattle.adj_tree.proofs.Names.{nat_refl}
 use Rattle.adj_word.specs.Word.{wrap}
 use Rattle.adj_word.proofs.Residues.{wrap_word}
-use Rattle.adj_word.proofs.Counting.{word-count, trips_through}
+use Rattle.adj_word.proofs.Counting.{word-count}
 use Rattle.adj_revolve.specs.Binomial.{beta}
 use Rattle.adj_revolve.specs.declared.machine.Action.{Action}
 use Rattle.adj_revolve.specs.Schedule.{schedule_of}
@@ -20,10 +20,11 @@ use Rattle.law_sweep.specs.Scenes.{Course, scene}
 use Rattle.def_sweep.specs.Rows.{literal}
 use Rattle.def_sweep.specs.ReversalCode.{slots_of, reversal}
 use Rattle.law_sweep.proofs.Slots.{slots_same}
+use Rattle.law_sweep.proofs.ActionStores.{Ready, begun_beside, trips_all}
 use Rattle.law_cost.specs.Sums.{sum_of}
 use Rattle.law_cost.proofs.Takes.{Takes, takes_stop, takes_more, takes_act, takes_step, loop_takes}
 use Rattle.law_cost.proofs.Playing.{schedule_played}
-use Rattle.law_cost.proofs.Acting.{Stepping, Ready, Beside, own_set, beside_then, inner, action, acts}
+use Rattle.law_cost.proofs.Acting.{Stepping, inner, action, acts}
 
 module _ (q : Calls ℤ) (sh : Var → Shape) (level : ℕ) (d line : ℕ) (x : List ℕ) (l m : ℕ) (mark : Mark) (a0 c0 : ℤ) (keep back plain_call adjoint : Code) (Standing : ℕ → Store ℤ → Type 0) (Loose : Store ℤ → Type 0) (Snap : ℕ → List ℤ → Type 0) (W : ℕ) (P A : ℕ → ℕ) where
   abbrev nw : Setting ℤ
@@ -56,13 +57,13 @@ module _ (q : Calls ℤ) (sh : Var → Shape) (level : ℕ) (d line : ℕ) (x : 
       let b1 : Course = record { opened = suc base.opened; events = Begin l m level (length t) ∷ base.events } in
       let a = acts q sh level d line x l m mark a0 c0 keep back plain_call adjoint Standing Loose Snap W P A steps_fit snapshots_fit few small s in
       let p = schedule_played q sh level Code' (helper entry d) W (inner q sh level d line x l m mark a0 c0 keep back plain_call adjoint Standing Loose Snap W P A) A
-      (Ready q sh level d line x l m mark a0 c0 keep back plain_call adjoint Standing Loose Snap W P A) steps l Standing Loose Snap a m slot refl r enough b1 f2 t
-      (s.standing 0 f f2 (beside f) h) (s.loosen 0 f2)
+      (Ready sh level d l m mark a0 c0) steps l Standing Loose Snap a m slot refl r enough b1 f2 t
+      (s.standing 0 f f2 (begun_beside d x n f) h) (s.loosen 0 f2)
       (record { count_is = count_is; first_is = first_is; stride_is = stride_is; slots_is = slots_same sh level d mark f f2 refl ∙ slots_is; entry_is = rw (nat_refl d) one_word }) in
       let most = actions_take r in
       let the_loop = loop (helper entry d) (literal 1) (var (helper entries d)) (literal 1) Code' unmarked in
       let looped = loop_takes q nw line (helper entry d) (literal 1) (var (helper entries d)) (literal 1) Code' (scene b1 f1 t) (scene p.later p.after t) (pos 1) (f1 (helper entries d) 0) (pos 1) n most
-      refl refl refl (ap (λ z. trips unmarked (pos 1) z (pos 1)) (entries_is f) ∙ trips_all) p.takes in
+      refl refl refl (ap (λ z. trips unmarked (pos 1) z (pos 1)) (entries_is f) ∙ trips_all n few) p.takes in
       let b2 : Course = record { opened = base.opened; events = End level ∷ p.later.events } in
       let last = takes_step q nw line (runtime end_reversal) stop (scene p.later p.after t) (scene b2 p.after t) (scene b2 p.after t) 0 (λ k. rw p.opened refl) (takes_stop q nw (scene b2 p.after t)) in
       record {
@@ -81,13 +82,3 @@ module _ (q : Calls ℤ) (sh : Var → Shape) (level : ℕ) (d line : ℕ) (x : 
 
       entries_is : (f : Store ℤ) → set f (helper entries d) 0 (pos (length steps)) (helper entries d) 0 ≡ pos (length steps)
       entries_is f = rw (nat_refl d) refl
-
-      trips_all : trips unmarked (pos 1) (pos (length steps)) (pos 1) ≡ Ok (length steps)
-      trips_all = let ok : nat_le (length steps) 9223372036854775807 ≡ true = grind arith in rw (trips_through (length steps)) (rw ok refl)
-
-      beside : (f : Store ℤ) → Beside q sh level d line x l m mark a0 c0 keep back plain_call adjoint Standing Loose Snap W P A f (set (set f (helper entries d) 0 (pos (length steps))) (helper entry d) 0 (wrap (pos 1)))
-      beside f =
-          let f1 = set f (helper entries d) 0 (pos (length steps)) in
-          beside_then q sh level d line x l m mark a0 c0 keep back plain_call adjoint Standing Loose Snap W P A f f1 (set f1 (helper entry d) 0 (wrap (pos 1)))
-          (own_set q sh level d line x l m mark a0 c0 keep back plain_call adjoint Standing Loose Snap W P A entries (pos (length steps)) f)
-          (own_set q sh level d line x l m mark a0 c0 keep back plain_call adjoint Standing Loose Snap W P A entry (wrap (pos 1)) f1)

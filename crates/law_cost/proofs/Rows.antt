@@ -38,6 +38,7 @@ use Rattle.law_sweep.proofs.Evaluations.{value_again}
 use Rattle.law_sweep.proofs.Snapshots.{KnowsArrays, group_pushed}
 use Rattle.law_sweep.proofs.LoopSweeps.{same_set, set_off}
 use Rattle.law_sweep.proofs.Slots.{few_slots, force_again, slots_trail, with_slots, slots_same, slots_are, slots_set, slots_pushed}
+use Rattle.law_sweep.proofs.ForthStores.{needed_through, enters}
 use Rattle.law_sweep.proofs.StepRuns.{NumbersFit, numbers_few}
 use Rattle.law_cost.specs.Sweeps.{statements_of}
 use Rattle.law_cost.specs.Along.{BothCost}
@@ -48,7 +49,7 @@ use Rattle.law_cost.specs.Sums.{sum_of}
 use Rattle.law_cost.specs.Rows.{StepsTake, row_takes, ReversedRowsCost}
 use Rattle.law_cost.proofs.Takes.{Takes, takes_more, takes_append, takes_act, takes_straight, loop_takes, takes_at_most}
 use Rattle.law_cost.proofs.Groups.{pushes_count, group_few, set_slots_straight, push_slots_straight, set_slots_few, push_slots_few, set_slots_append}
-use Rattle.law_cost.proofs.Forth.{needed_through, enters, turns_forth}
+use Rattle.law_cost.proofs.Forth.{turns_forth}
 use Rattle.law_cost.proofs.Back.{actions, back_takes}
 
 module _ (qs : List Procedure) (depth : ℕ) (sh : Var → Shape) (level : ℕ) (cells : List Key) (d line : ℕ) (p : Plan) (known : KnowsArrays p sh) (x : List ℕ) (one_cell : size_of (sh (plain x)) ≡ 1) (l m : ℕ) (mark : Mark) (a0 b0 c0 : ℤ) (g : CalleeFacts) (given : List (List ℕ)) (apart : AreApart g.callee.dummies) (apart' : AreApart given) (name : List ℕ) (change : ℕ → Words → Words) (loops : ℕ → List LoopRun) (U U' : ℕ → Store ℤ)
@@ -187,22 +188,22 @@ module _ (qs : List Procedure) (depth : ℕ) (sh : Var → Shape) (level : ℕ) 
       let taken = group_pushed q sh level p line known snapshot f3 in
       let t1 = saved.trail ++ t in
       let t2 = taken.trail ++ t1 in
-      let through = needed_through q sh level cells d line p known x one_cell l m mark a0 c0 g given apart apart' name change loops U U' w i ea eb ec laws numbers.small s nexts P (λ i b f t. steps.plain_calls i b f t) (w.marks.kept (suc i)) in
+      let through = needed_through w i (w.marks.kept (suc i)) in
       let same4 : SameOn sh through (U 0) f4 =
-      subst (λ (z : Store ℤ). SameOn sh through z f4) (sym starts) (same_set sh x one_cell needed through u f3 (wrap a0) (wrap a0) refl (λ y n h. enters q sh level cells d line p known x one_cell l m mark a0 c0 g given apart apart' name change loops U U' w i ea eb ec laws numbers.small s nexts P (λ i b f t. steps.plain_calls i b f t) (w.marks.kept (suc i)) y n h) same3) in
+      subst (λ (z : Store ℤ). SameOn sh through z f4) (sym starts) (same_set sh x one_cell needed through u f3 (wrap a0) (wrap a0) refl (λ y n h. enters x mark g given w i ea eb ec laws (w.marks.kept (suc i)) y n h) same3) in
       let value4 : f4 (plain x) 0 ≡ U 0 (plain x) 0 = rw (name_refl x) (sym (ap (λ (z : Store ℤ). z (plain x) 0) starts ∙ rw (name_refl x) refl)) in
       let v = turns_forth q sh level cells d line p known x one_cell l m mark a0 c0 g given apart apart' name change loops U U' w i ea eb ec laws numbers.small s nexts P (λ i b f t. steps.plain_calls i b f t) x_free l 0 b f4 t2 (omega arith) same4 value4 count_is in
       let after = v.later in
       let looped = loop_takes q nw line (plain x) (var (helper first (suc d))) eb (var (helper stride (suc d))) turn_code (scene b f3 t2) (scene after v.to t2) a0 b0 c0 l turns_sum
       (ap Ok first_is) (value_again sh level needed u f3 same3 eb text_b uses_b ∙ is_b) (ap Ok stride_is) turns_is v.takes in
       let none_else : 0 + l ≡ l = omega arith in
-      let counted : v.to (helper count (suc d)) 0 ≡ pos l = v.counted_is ∙ ap pos none_else in
+      let counted : v.to (helper count (suc d)) 0 ≡ pos l = v.moved.counted_is ∙ ap pos none_else in
       let slots_then = slots_trail mark m ++ (c0 ∷ (a0 ∷ t2)) in
       let all = pos l ∷ slots_then in
       let tail_leads : Leads q nw tail (scene after v.to t2) (scene after v.to all) =
-      leads_step q nw line (runtime (push_word (helper first (suc d)) none)) _ (scene after v.to t2) (scene after v.to (a0 ∷ t2)) (scene after v.to all) (λ k. ap (λ (z : ℤ). Done (scene after v.to (z ∷ t2)) k) (v.first_is ∙ first_is))
-      (leads_step q nw line (runtime (push_word (helper stride (suc d)) none)) _ (scene after v.to (a0 ∷ t2)) (scene after v.to (c0 ∷ (a0 ∷ t2))) (scene after v.to all) (λ k. ap (λ (z : ℤ). Done (scene after v.to (z ∷ (a0 ∷ t2))) k) (v.stride_is ∙ stride_is))
-      (slots_pushed sh level (suc d) q line mark m behind_pushed after v.to (c0 ∷ (a0 ∷ t2)) (scene after v.to all) (slots_same sh level (suc d) mark f3 v.to v.slots_is ∙ slots_is)
+      leads_step q nw line (runtime (push_word (helper first (suc d)) none)) _ (scene after v.to t2) (scene after v.to (a0 ∷ t2)) (scene after v.to all) (λ k. ap (λ (z : ℤ). Done (scene after v.to (z ∷ t2)) k) (v.moved.first_is ∙ first_is))
+      (leads_step q nw line (runtime (push_word (helper stride (suc d)) none)) _ (scene after v.to (a0 ∷ t2)) (scene after v.to (c0 ∷ (a0 ∷ t2))) (scene after v.to all) (λ k. ap (λ (z : ℤ). Done (scene after v.to (z ∷ (a0 ∷ t2))) k) (v.moved.stride_is ∙ stride_is))
+      (slots_pushed sh level (suc d) q line mark m behind_pushed after v.to (c0 ∷ (a0 ∷ t2)) (scene after v.to all) (slots_same sh level (suc d) mark f3 v.to v.moved.slots_is ∙ slots_is)
       (leads_step q nw line (runtime (push_word (helper count (suc d)) none)) stop (scene after v.to slots_then) (scene after v.to all) (scene after v.to all) (λ k. ap (λ (z : ℤ). Done (scene after v.to (z ∷ slots_then)) k) counted)
       (leads_stop q nw (scene after v.to all))))) in
       let front_leads : Leads q nw front (scene b f t) (scene b f3 t2) =
@@ -215,7 +216,7 @@ module _ (qs : List Procedure) (depth : ℕ) (sh : Var → Shape) (level : ℕ) 
       let last = takes_straight q nw tail tail_straight (scene after v.to t2) (scene after v.to all) tail_leads in
       let rest = takes_act q nw line turns_code tail (scene b f3 t2) (scene after v.to t2) (scene after v.to all) turns_sum (statements_of tail) looped last in
       let whole = takes_append q nw front (step line turns_code tail) (scene b f t) (scene b f3 t2) (scene after v.to all) (statements_of front) (1 + turns_sum + statements_of tail) start rest in
-      let off3 : SameOff (joined (just (plain x)) wrote) f3 v.to = record { at = λ y j o. v.off.at y j o ∙ (set_off sh x one_cell wrote f3 (wrap a0)).at y j o } in
+      let off3 : SameOff (joined (just (plain x)) wrote) f3 v.to = record { at = λ y j o. v.moved.off.at y j o ∙ (set_off sh x one_cell wrote f3 (wrap a0)).at y j o } in
       record {
         to = v.to;
         later = after;

@@ -16,6 +16,7 @@ use Rattle.def_meaning.proofs.Appends.{run_append}
 use Rattle.law_meaning.proofs.Costs.{leads_where_done, run_later}
 use Rattle.law_meaning.proofs.Inversions.{Halves, then_done, value_done, top_done, count_done, done_same}
 use Rattle.def_sweep.specs.Marked.{code_if}
+pub use Rattle.law_sweep.proofs.Runs.{left_same}
 use Rattle.law_sweep.proofs.Choices.{part}
 use Rattle.law_cost.specs.Sweeps.{statements_of}
 
@@ -25,9 +26,6 @@ one_end units depth n c s s1 e k left l h =
     let m = leads_where_done units depth n c s e k left h in
     let same : m.cost + (l.cost + 0) ≡ l.cost + (m.cost + 0) = omega arith in
     done_same e s1 (l.cost + 0) (m.cost + 0) (sym (m.by (l.cost + 0)) ∙ ap (run (calls_of units depth) n c s) same ∙ l.by (m.cost + 0))
-
-pub left_same : {B : Type 0} (b c : B) (j k : ℕ) → (let o : Outcome B = Done b j in o ≡ Done c k) → j ≡ k
-left_same b c j k h = cc
 
 -- runtime calls that take no statements besides themselves: pushes, pops and clearing an array
 abbrev pub IsShift : Runtime → Type 0

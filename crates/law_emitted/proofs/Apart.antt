@@ -6,7 +6,7 @@ use Rattle.adj_tree.specs.Code.{Var, plain, shadow, helper, Role, role_code, wor
 use Rattle.adj_tree.proofs.Names.{nat_same}
 use Rattle.def_meaning.specs.Apart.{has_name, AreApart}
 use Rattle.def_names.specs.Reserved.{reserved}
-use Rattle.def_sweep.specs.Naming.{own, named, unit_names}
+use Rattle.def_sweep.specs.Naming.{adjoint_text, own, named, unit_names}
 use Rattle.def_names.specs.Numbers.{Vars}
 use Rattle.def_sweep.specs.Marked.{names_in}
 use Rattle.def_sweep.specs.Declared.{helpers_from}
@@ -353,7 +353,7 @@ module _ (vs units : List (List ℕ)) (a : Vars) (hs : List Var) (helpers : AreH
 
   split : (v : Var) → has_var v (unit_names vs units (map shadow (names_in a vs) ++ hs)) ≡ (has_var v (map own vs) || (among v (map shadow (names_in a vs)) || among v hs))
   split v =
-      has_var-append v (map own vs) (named (vs ++ (units ++ reserved)) made) ∙ ap (λ b. has_var v (map own vs) || b) (has_made v (vs ++ (units ++ reserved)) made ∙ among-append v (map shadow (names_in a vs)) hs)
+      has_var-append v (map own vs) (named (vs ++ (units ++ reserved)) made) ∙ ap (λ b. has_var v (map own vs) || b) (has_made adjoint_text v (vs ++ (units ++ reserved)) made ∙ among-append v (map shadow (names_in a vs)) hs)
 
   -- of three of which two are false the third is what holds
   first_of : (b c d : Bool) → c ≡ false → d ≡ false → (b || (c || d)) ≡ true → b ≡ true

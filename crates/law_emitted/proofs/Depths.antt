@@ -25,11 +25,12 @@ use Rattle.law_emitted.proofs.UnitFaults.{each_made}
 
 -- ---- lists
 
-deep_append : (n : ℕ) (c d : Code) → deepest c ≤ n → deepest d ≤ n → deepest (c +++ d) ≤ n
+-- two lists, one after the other; and a list that may be left out
+pub deep_append : (n : ℕ) (c d : Code) → deepest c ≤ n → deepest d ≤ n → deepest (c +++ d) ≤ n
 deep_append n stop d h g = g
 deep_append n (step line a c) d h g = let rest = deep_append n c d (omega arith) g in omega arith
 
-deep_if : (n : ℕ) (b : Bool) (c : Code) → deepest c ≤ n → deepest (code_if b c) ≤ n
+pub deep_if : (n : ℕ) (b : Bool) (c : Code) → deepest c ≤ n → deepest (code_if b c) ≤ n
 deep_if n true c h = h
 deep_if n false c h = omega arith
 
@@ -40,7 +41,8 @@ deep_choice n false c d h g = g
 
 -- ---- assignments
 
-deep_own : (n : ℕ) (t : Bool) (j : ℕ) (e : Term) → 1 ≤ n → term_depth e ≤ n → term_depth (own_or t j e) ≤ n
+-- an operand by its temporary or by itself, and the assignment of the temporary
+pub deep_own : (n : ℕ) (t : Bool) (j : ℕ) (e : Term) → 1 ≤ n → term_depth e ≤ n → term_depth (own_or t j e) ≤ n
 deep_own n true j e l h = l
 deep_own n false j e l h = h
 
@@ -48,7 +50,8 @@ deep_own_code : (n : ℕ) (t : Bool) (line j : ℕ) (e : Term) → term_depth e 
 deep_own_code n true line j e h = omega arith
 deep_own_code n false line j e h = omega arith
 
-some_depth : (e : Term) → 1 ≤ term_depth e
+-- a term has a depth
+pub some_depth : (e : Term) → 1 ≤ term_depth e
 some_depth (lit z) = omega arith
 some_depth (var x) = omega arith
 some_depth (elem x s) = omega arith
@@ -93,7 +96,8 @@ module _ (on : Vars) where
       omega arith
   deep_shrunk n (abs a) j h = h
 
-  deep_temps : (n : ℕ) (e : Term) (j line : ℕ) → term_depth e ≤ n → deepest (temps_where on e j line) ≤ n
+  -- the assignments of the temporaries
+  pub deep_temps : (n : ℕ) (e : Term) (j line : ℕ) → term_depth e ≤ n → deepest (temps_where on e j line) ≤ n
   deep_temps n (lit z) j line h = omega arith
   deep_temps n (var x) j line h = omega arith
   deep_temps n (elem x subs) j line h = omega arith
@@ -439,7 +443,7 @@ module _ (r : Var → Var) where
     renamed_act (call name args) = renamed_terms args
     renamed_act (runtime c) = renamed_runtime c
 
-    renamed_list : (c : Code) → deepest (rename r c) ≡ deepest c
+    pub renamed_list : (c : Code) → deepest (rename r c) ≡ deepest c
     renamed_list stop = refl
     renamed_list (step line a rest) = λ i. max (renamed_act a i) (renamed_list rest i)
 

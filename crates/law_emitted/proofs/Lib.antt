@@ -18,6 +18,7 @@ pub mod StepCalls
 pub mod Sweeps
 pub mod Tables
 pub mod Used
+pub mod ShadowNames
 pub mod Apart
 pub mod MadeNames
 pub mod Source

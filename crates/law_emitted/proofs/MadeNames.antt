@@ -1,8 +1,10 @@
--- The names of adjoint units: they are written, and have an underscore, so that nothing that is reserved has them.
+-- The names of made units: they are written, and have an underscore, so that nothing that is reserved has them.
 use Rattle.std.proofs.Common.{◌≡◌, ℕ, zero, suc, Bool, true, false, List, [], ◌∷◌, ◌++◌, length, refl, sym, ap, ◌∙◌, subst, codes, if◌then◌else◌}
 use Rattle.std.specs.Prelude.{◌||◌, ◌==◌, Option, Some, None}
+use Rattle.std.specs.List.{list_all}
 use Rattle.adj_tree.specs.Code.{name_eq, Act, assign, choose, loop, during, call, runtime, Code, stop, step, Procedure}
 use Rattle.adj_tree.proofs.Names.{name_same}
+use Rattle.def_text.specs.Char.{is_name_char}
 use Rattle.def_text.specs.Written.{IsName}
 use Rattle.def_meaning.specs.Written.{find_unit}
 use Rattle.def_names.specs.Reserved.{is_runtime, reserved}
@@ -13,7 +15,7 @@ use Rattle.def_names.specs.Numbers.{next, behind}
 use Rattle.def_names.proofs.Variables.{or_left, or_right}
 use Rattle.law_kernel.proofs.FreshWritten.{name-append, fresh-name}
 use Rattle.def_sweep.specs.Plan.{actuals_named, Schedules, Step, reversed_by, ByStep}
-use Rattle.def_sweep.specs.Names.{adjoint_after, source_names}
+use Rattle.def_sweep.specs.Names.{named_after, adjoint_after, source_names}
 use Rattle.def_sweep.specs.Marking.{ProgramMarks, callee_of, callee_in, plan_in, SplitsNothing}
 use Rattle.law_sweep.specs.Source.{is_unit}
 use Rattle.law_sweep.proofs.UnitLists.{found_there}
@@ -59,7 +61,7 @@ not_among x (y ∷ ys) h n = go (name_eq x y) refl (not_among x ys h n.1)
     go true e ih = absurd (let p : true ≡ false = sym h ∙ ap underscored (name_same x y e) ∙ n.0 in cc)
     go false e ih = ih
 
--- ---- the names of adjoint units
+-- ---- the names of made units
 
 -- a written name with an underscore
 abbrev pub IsMadeName : List ℕ → Type 0
@@ -81,19 +83,23 @@ made_no_runtime x h = after7 (name_eq x (codes "ABS")) (name_eq x (codes "IABS")
     after7 false false false false false false true r h = absurd cc
     after7 false false false false false false false r h = h
 
-pub adjoint_named : (taken : List (List ℕ)) (us : List Procedure) (name : List ℕ) → Each (λ u. IsName u.name) us → is_unit us name ≡ true → IsMadeName (adjoint_after taken us name)
-adjoint_named taken [] name w h = absurd cc
-adjoint_named taken (u ∷ us) name w h = go (name_eq u.name name) h (λ g. adjoint_named (taken ++ (made ∷ [])) us name w.1 g)
+-- a fresh name with an ending that has an underscore is one
+pub made_named : (ending : List ℕ) → list_all is_name_char ending ≡ true → underscored ending ≡ true → (taken : List (List ℕ)) (us : List Procedure) (name : List ℕ) → Each (λ u. IsName u.name) us → is_unit us name ≡ true → IsMadeName (named_after ending taken us name)
+made_named ending chars under taken [] name w h = absurd cc
+made_named ending chars under taken (u ∷ us) name w h = go (name_eq u.name name) h (λ g. made_named ending chars under (taken ++ (made ∷ [])) us name w.1 g)
   where
     made : List ℕ
-    made = fresh (u.name ++ codes "_B") taken
+    made = fresh (u.name ++ ending) taken
 
-    here : IsMadeName (fresh (u.name ++ codes "_B") taken)
-    here = (fresh-name (u.name ++ codes "_B") taken (name-append u.name (codes "_B") w.0 refl), underscored_free (length taken) 0 (u.name ++ codes "_B") taken (underscored_behind u.name (codes "_B") refl))
+    here : IsMadeName (fresh (u.name ++ ending) taken)
+    here = (fresh-name (u.name ++ ending) taken (name-append u.name ending w.0 chars), underscored_free (length taken) 0 (u.name ++ ending) taken (underscored_behind u.name ending under))
 
-    go : (b : Bool) → (b || is_unit us name) ≡ true → (is_unit us name ≡ true → IsMadeName (adjoint_after (taken ++ (fresh (u.name ++ codes "_B") taken ∷ [])) us name)) → IsMadeName (if b then fresh (u.name ++ codes "_B") taken else adjoint_after (taken ++ (fresh (u.name ++ codes "_B") taken ∷ [])) us name)
+    go : (b : Bool) → (b || is_unit us name) ≡ true → (is_unit us name ≡ true → IsMadeName (named_after ending (taken ++ (fresh (u.name ++ ending) taken ∷ [])) us name)) → IsMadeName (if b then fresh (u.name ++ ending) taken else named_after ending (taken ++ (fresh (u.name ++ ending) taken ∷ [])) us name)
     go true h ih = here
     go false h ih = ih h
+
+pub adjoint_named : (taken : List (List ℕ)) (us : List Procedure) (name : List ℕ) → Each (λ u. IsName u.name) us → is_unit us name ≡ true → IsMadeName (adjoint_after taken us name)
+adjoint_named = made_named (codes "_B") refl refl
 
 -- ---- what sweeps take
 

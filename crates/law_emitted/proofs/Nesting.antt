@@ -25,7 +25,7 @@ use Rattle.law_emitted.proofs.UnitFaults.{each_made}
 
 -- ---- lists
 
-below_append : (n : ℕ) (c d : Code) → code_depth c ≤ n → code_depth d ≤ n → code_depth (c +++ d) ≤ n
+pub below_append : (n : ℕ) (c d : Code) → code_depth c ≤ n → code_depth d ≤ n → code_depth (c +++ d) ≤ n
 below_append n stop d h g = g
 below_append n (step line a c) d h g = let rest = below_append n c d (omega arith) g in omega arith
 
@@ -322,7 +322,7 @@ mutual
   renamed_act r (call name args) = refl
   renamed_act r (runtime c) = refl
 
-  renamed_depth : (r : Var → Var) (c : Code) → code_depth (rename r c) ≡ code_depth c
+  pub renamed_depth : (r : Var → Var) (c : Code) → code_depth (rename r c) ≡ code_depth c
   renamed_depth r stop = refl
   renamed_depth r (step line a rest) = λ i. max (renamed_act r a i) (renamed_depth r rest i)
 

@@ -1,12 +1,14 @@
 -- Code that is formed as written code is, and whose variables stand as a property allows: with so many subscripts, or whole.
 use Rattle.std.proofs.Common.{◌≡◌, ℕ, ◌<◌, ◌≤◌, Bool, true, false, List, refl}
 use Rattle.std.specs.Prelude.{Option, Some, None}
-use Rattle.adj_tree.specs.Code.{Var, Term, lit, var, elem, neg, bin, pow, power_of, abs, Terms, none, more, Test, compare, negation, conjunction, disjunction, Runtime, push_word, pop_word, push_array, pop_array, push_control, pop_control, zero_array, begin_reversal, count_actions, give_action, end_reversal, Mark, unmarked, with_count, count_from, Act, assign, choose, loop, during, call, runtime, Code, stop, step}
+use Rattle.adj_tree.specs.Code.{Var, plain, shadow, helper, Term, lit, var, elem, neg, bin, pow, power_of, abs, Terms, none, more, Test, compare, negation, conjunction, disjunction, Runtime, push_word, pop_word, push_array, pop_array, push_control, pop_control, zero_array, begin_reversal, count_actions, give_action, end_reversal, Mark, unmarked, with_count, count_from, Act, assign, choose, loop, during, call, runtime, Code, stop, step}
 use Rattle.def_text.specs.Written.{IsName, IsLiteral, AreSubscripts, is_literal}
 use Rattle.def_meaning.specs.Append.{◌+++◌}
 use Rattle.def_names.specs.Standing.{count_of}
 use Rattle.def_names.specs.Reserved.{is_runtime}
 use Rattle.def_sweep.specs.Marked.{code_if}
+use Rattle.def_sweep.specs.Plan.{names_of}
+use Rattle.law_emitted.proofs.Lists.{Each}
 
 module _ (Q : Var → Option ℕ → Type 0) (A : Var → Type 0) where
   abbrev mutual
@@ -73,6 +75,20 @@ module _ (Q : Var → Option ℕ → Type 0) (A : Var → Type 0) where
   pub place_other : (x y : Var) (s : Terms) → (Q x (Some (count_of s)) → Q y (Some (count_of s))) → OverPlace x s → OverPlace y s
   place_other x y none f h = f h
   place_other x y (more e es) f h = (f h.0, h.1)
+
+  -- names among actuals stand whole
+  pub names_stand : (args : Terms) → OverActuals args → Each (λ a. Q (plain a) None) (names_of args)
+  names_stand none h = tt
+  names_stand (more (var (plain a)) es) h = (h.0, names_stand es h.1)
+  names_stand (more (var (shadow a)) es) h = names_stand es h.1
+  names_stand (more (var (helper r k)) es) h = names_stand es h.1
+  names_stand (more (lit z) es) h = names_stand es h.1
+  names_stand (more (elem x s) es) h = names_stand es h.1
+  names_stand (more (neg a) es) h = names_stand es h.1
+  names_stand (more (bin op a b) es) h = names_stand es h.1
+  names_stand (more (pow a k) es) h = names_stand es h.1
+  names_stand (more (power_of a b) es) h = names_stand es h.1
+  names_stand (more (abs a) es) h = names_stand es h.1
 
 -- statements, where of each CALL of a unit and its actuals C holds
 module _ (Q : Var → Option ℕ → Type 0) (A : Var → Type 0) (C : List ℕ → Terms → Type 0) where

@@ -1,7 +1,7 @@
 -- A checked program meets all that the law on emitted programs asks, and so what is emitted for it is its adjoint.
 use Rattle.std.proofs.Common.{◌≡◌, ℕ, Bool, true, false, List, [], ◌∷◌, map, refl, sym, ap, ◌∙◌, subst, arith}
-use Rattle.std.specs.Prelude.{◌==◌, ◌&&◌, ◌||◌, not, length, flat_map, Option, Some, None, IsTrue}
-use Rattle.adj_tree.specs.Code.{Var, plain, Act, Extent, Procedure}
+use Rattle.std.specs.Prelude.{◌&&◌, ◌||◌, not, flat_map, Option, Some, None, IsTrue}
+use Rattle.adj_tree.specs.Code.{Var, plain, Act, Procedure}
 use Rattle.adj_tree.specs.declared.fault.Refusal.{Refusal}
 use Rattle.def_meaning.specs.Written.{find_unit, handed_back}
 use Rattle.def_meaning.specs.Read.{is_extent}
@@ -47,12 +47,8 @@ use Rattle.law_emitted.proofs.Callings.{Found, all_found, each_at, head_uncalled
 use Rattle.law_emitted.proofs.CheckedUnits.{dummy_names, unit_names, extents_dummies, names_known}
 use Rattle.law_emitted.proofs.Names.{variables_inside}
 use Rattle.law_sweep.proofs.Unsplit.{nowhere_some}
+use Rattle.law_sweep.proofs.Declared.{no_extents}
 use Rattle.law_emitted.proofs.Pairs.{wrote, extents_spared, none_declared, wider_some, adjoint_part, pair_part}
-
--- what isn't an array has no extents
-no_extents : (l : List Extent) → not (length l == 0) ≡ false → l ≡ []
-no_extents [] h = refl
-no_extents (e ∷ l) h = absurd (let x : length l ≡ length l = refl in grind arith)
 
 -- every dummy is a member
 all_members : (ps : List Procedure) (name d : List ℕ) (o : Option Procedure) → (callee_of full_marks ps name o).members (plain d) ≡ true

@@ -1,7 +1,7 @@
 -- Both sweeps of statements are formed as written code is, where what they use stands: shadows, helpers, and arrays in calls of the runtime.
 use Rattle.std.proofs.Common.{◌≡◌, ℕ, suc, ◌<◌, ◌≤◌, ◌^◌, Bool, true, false, List, [], ◌∷◌, refl, sym, ap, ◌∙◌, subst, arith, if◌then◌else◌}
 use Rattle.std.specs.Prelude.{◌&&◌, ◌||◌, not, Option, Some, None}
-use Rattle.adj_tree.specs.Code.{Var, plain, shadow, helper, work, temp, control, Role, first, stride, count, turn, entry, entries, kind, lower, upper, slots, plus, minus, times, Term, lit, var, elem, neg, bin, pow, power_of, abs, Terms, none, more, Test, compare, is_same, Mark, unmarked, with_count, count_from, push_word, pop_word, push_array, pop_array, push_control, zero_array, Act, assign, choose, loop, during, call, runtime, Code, stop, step}
+use Rattle.adj_tree.specs.Code.{Var, plain, shadow, helper, work, temp, control, Role, first, stride, count, turn, kind, lower, slots, plus, Term, var, bin, Terms, none, more, Test, compare, is_same, Mark, unmarked, with_count, count_from, push_word, pop_word, push_array, pop_array, push_control, zero_array, Act, assign, choose, loop, during, call, runtime, Code, stop, step}
 use Rattle.def_text.specs.Written.{IsName}
 use Rattle.def_meaning.specs.Append.{◌+++◌, one}
 use Rattle.def_names.specs.Standing as standing
@@ -13,7 +13,7 @@ use Rattle.def_sweep.specs.Marked.{code_if}
 use Rattle.def_names.proofs.Variables.{and_true}
 use Rattle.def_sweep.specs.AdjointOf.{works_in_where, temps_in_where, adjoint_where}
 use Rattle.def_sweep.specs.Plan.{Callee, Plan, is_emitted, names_of, actuals_named, group, save_group, snapshot_group, step_snapshot, found_or, Schedules, Step, is_from_variable, reversed_by, ByStep}
-use Rattle.def_sweep.specs.ReversalCode.{at_turn, arm, advance, arms, one_action, reversal, slots_of, set_slots, push_slots, pop_slots, reversed_forward, reversed_backward, row_forward, row_backward}
+use Rattle.def_sweep.specs.ReversalCode.{at_turn, arm, advance, arms, reversal, slots_of, set_slots, push_slots, pop_slots, reversed_forward, reversed_backward, row_forward, row_backward}
 use Rattle.def_sweep.specs.Rows.{is_empty, push, pop, pushes, pops, literal, told_forward, told_backward, loop_forward, loop_backward, while_forward, while_backward, resets, reset, with_shadows, adjoint_call}
 use Rattle.def_sweep.specs.Emission.{forward_act_with, forward_with, backward_act_with, backward_with, cleared, adjoint_body_with}
 use Rattle.def_sweep.proofs.UnsplitRows.{unsplit_forward, unsplit_backward}
@@ -21,7 +21,7 @@ use Rattle.def_sweep.specs.Program.{works_act, works_used, temps_act, temps_used
 use Rattle.law_emitted.proofs.Lists.{Each}
 use Rattle.law_emitted.specs.Shadowed.{AreCarried}
 use Rattle.law_emitted.proofs.Follows.{FollowsActBy, FollowsBy}
-use Rattle.law_emitted.proofs.Over.{OverTerm, OverPlace, OverTest, OverActuals, OverMark, OverAct, OverCode, Any, over_append, over_if, place_other}
+use Rattle.law_emitted.proofs.Over.{OverTerm, OverPlace, OverTest, OverActuals, OverMark, OverAct, OverCode, Any, over_append, over_if, place_other, names_stand}
 use Rattle.law_emitted.proofs.Terms.{adjoint_over}
 use Rattle.law_emitted.proofs.StepCalls.{step_body, step_mark, from_keep, from_turn, from_advance}
 use Rattle.law_emitted.proofs.Helpers.{HelpedAct, Helped, helped_front, helped_rest, idle_parts, tells_here, helped_first, helped_other, idle_body, helped_body, loop_counts, loop_bounds, helped_turns, while_counts, reversed_counts, reversed_bounds, reversed_actions, reversed_numbers, Acting}
@@ -96,19 +96,6 @@ module _ (Q : Var → Option ℕ → Type 0) (A : Var → Type 0) (C : List ℕ 
 
   -- ---- groups
 
-  names_stand : (args : Terms) → OverActuals Q A args → Stands (names_of args)
-  names_stand none h = tt
-  names_stand (more (var (plain x)) es) h = (h.0, names_stand es h.1)
-  names_stand (more (var (shadow x)) es) h = names_stand es h.1
-  names_stand (more (var (helper r k)) es) h = names_stand es h.1
-  names_stand (more (lit z) es) h = names_stand es h.1
-  names_stand (more (elem x s) es) h = names_stand es h.1
-  names_stand (more (neg a) es) h = names_stand es h.1
-  names_stand (more (bin op a b) es) h = names_stand es h.1
-  names_stand (more (pow a k) es) h = names_stand es h.1
-  names_stand (more (power_of a b) es) h = names_stand es h.1
-  names_stand (more (abs a) es) h = names_stand es h.1
-
   group_stands : (f g : Vars) (ds given : List (List ℕ)) → Stands given → Stands (group f g ds given)
   group_stands f g [] given h = tt
   group_stands f g (d ∷ ds) [] h = tt
@@ -155,7 +142,7 @@ module _ (Q : Var → Option ℕ → Type 0) (A : Var → Type 0) (C : List ℕ 
       OverCode Q A C (code_if (is_emitted p.marks i) (pushes p line (save_group p.marks i g (names_of args)) +++ (code_if (p.marks.adjointed i) (pushes p line (snapshot_group g (names_of args))) +++ code_if (p.marks.kept i) (one line (call name args)))))
   call_forward i line g name args o f =
       let given = names_of args in
-      let stand = names_stand args o.1.0 in
+      let stand = names_stand Q A args o.1.0 in
       let saves = save_group p.marks i g given in
       let members = snapshot_group g given in
       guard (is_emitted p.marks i) (pushes p line saves +++ (code_if (p.marks.adjointed i) (pushes p line members) +++ code_if (p.marks.kept i) (one line (call name args))))
@@ -168,7 +155,7 @@ module _ (Q : Var → Option ℕ → Type 0) (A : Var → Type 0) (C : List ℕ 
       OverCode Q A C (code_if (is_emitted p.marks i) (code_if (p.marks.adjointed i) (pops p line (snapshot_group g (names_of args)) +++ one line (adjoint_call g (names_of args))) +++ pops p line (save_group p.marks i g (names_of args))))
   call_backward i line g args o f =
       let given = names_of args in
-      let stand = names_stand args o in
+      let stand = names_stand Q A args o in
       let saves = save_group p.marks i g given in
       let members = snapshot_group g given in
       guard (is_emitted p.marks i) (code_if (p.marks.adjointed i) (pops p line members +++ one line (adjoint_call g given)) +++ pops p line saves)
@@ -346,7 +333,7 @@ module _ (Q : Var → Option ℕ → Type 0) (A : Var → Type 0) (C : List ℕ 
           let called = f.0.1 (step_mark sc p.marks.adjointed i body m s e).1 in record {
             name = o.0.0;
             other = o.0.1.1.0;
-            given = names_stand args o.0.1.0;
+            given = names_stand Q A args o.0.1.0;
             adjoint_name = called.0;
             adjoint_other = called.1.0;
             carried = called.1.1.0;
@@ -417,7 +404,7 @@ module _ (Q : Var → Option ℕ → Type 0) (A : Var → Type 0) (C : List ℕ 
       join (code_if (p.marks.kept i && p.marks.saved i (plain x)) (one line (runtime (pop_word (plain x) subs)))) (code_if (p.marks.adjointed i) (adjoint_where (active_at p.marks i) x subs e line))
       (guard (p.marks.kept i && p.marks.saved i (plain x)) (one line (runtime (pop_word (plain x) subs))) (λ t. (here, tt)))
       (guard (p.marks.adjointed i) (adjoint_where (active_at p.marks i) x subs e line)
-      (λ t. adjoint_over (active_at p.marks i) Q A C works temps work_stands temp_stands
+      (λ t. adjoint_over (active_at p.marks i) Q A C temps temp_stands works work_stands
       (λ y n on q. let marked = and_true (p.marks.varied (point_before i) (plain y)) (p.marks.shadowed (plain y)) on in allows.shadows y (Some n) marked.1 q) x subs e line
       (place_other Q A (plain x) (shadow x) subs (λ q. allows.shadows x (Some (standing.count_of subs)) (f t) q) here) w
       (bounded (p.marks.adjointed i) (works_in_where (active_at p.marks i) e 1) works t most) (bounded (p.marks.adjointed i) (temps_in_where (active_at p.marks i) e) temps t all)))

@@ -34,6 +34,7 @@ use Rattle.law_emitted.proofs.SoundPrograms.{emitted_sound}
 use Rattle.law_emitted.specs.Accepted.{emitted_for, KernelsAdjoint, EmittedIsAdjoint, EmittedIsWritten, EmittedIsSound}
 use Rattle.law_emitted.proofs.Heaviest.{heaviest_in, all_weigh}
 use Rattle.law_emitted.proofs.Directions.{direction_fits}
+use Rattle.law_emitted.proofs.ShadowNames.{same_dummies}
 use Rattle.law_emitted.proofs.Kernels.{kernel_checked, numbered, found_name, IsKernelUnit, becomes}
 
 -- ---- marked loops that were told
@@ -127,7 +128,7 @@ kernels_adjoint sc lines m ps a name u found vars outvars qs h =
       becomes = there;
       adjoint = h.adjoint;
       is_there = h.is_there;
-      dummies = h.dummies ∙ (λ i. shadows_behind (m.shadowed (named i)) (adjoint_names_with sc m (kernel_of ps) (all_units m (kernel_of ps) h.unit) h.unit) (like.same_dummies i));
+      dummies = h.dummies ∙ (λ i. shadows_behind (m.shadowed (named i)) (adjoint_names_with sc m (kernel_of ps) (all_units m (kernel_of ps) h.unit) h.unit) (like.same_dummies i)) ∙ same_dummies sc m (kernel_of ps) h.unit h.unit (m.shadowed name) u.dummies;
       transposes = λ input shadows fit alike k used output done.
           transposes ps a name u h.unit found there vars outvars input fit lines (shadow_flags (m.shadowed name) u.dummies) qs h.adjoint shadows k used output done
           (λ k used output done. subst (λ fl. TransposesBy lines fl (kernel_of ps) h.unit vars outvars qs h.adjoint input shadows output.events) (λ i. shadow_flags (m.shadowed (named i)) (like.same_dummies i)) (h.transposes input shadows (like.same_fits input ∙ fit) alike k used output done));

@@ -1,14 +1,14 @@
--- An adjoint unit is written.
+-- A unit that is made is written, and so is an adjoint unit.
 use Rattle.std.proofs.Common.{◌≡◌, ℕ, Bool, true, false, List, [], ◌∷◌, All, refl, arith, if◌then◌else◌}
 use Rattle.std.specs.Prelude.{Option, Some, None}
 use Rattle.std.proofs.lemmas.List.Elements.{All-nil, All-cons, All-head, All-tail, All-append}
-use Rattle.adj_tree.specs.Code.{Var, plain, shadow, helper, work, temp, name_eq, var_eq, Declaration, Procedure}
+use Rattle.adj_tree.specs.Code.{Var, plain, shadow, helper, work, temp, name_eq, var_eq, Code, Declaration, Procedure}
 use Rattle.def_text.specs.Written.{IsName, IsWrittenExtent, IsWrittenDeclaration, IsWrittenProcedure}
 use Rattle.def_names.specs.Statements.{statements}
 use Rattle.def_names.specs.Variables.{variables}
 use Rattle.def_kernel.specs.Form.{IsKernelCode}
 use Rattle.def_meaning.specs.Apart.{has_name}
-use Rattle.def_sweep.specs.Naming.{Named, name_in, naming}
+use Rattle.def_sweep.specs.Naming.{Derived, adjoint_text, Named, name_in, naming}
 use Rattle.def_names.specs.Numbers.{Vars}
 use Rattle.def_sweep.specs.Marked.{names_in}
 use Rattle.def_sweep.specs.MarkedProgram.{shadows_behind, declared_behind}
@@ -19,7 +19,7 @@ use Rattle.def_sweep.specs.Plan.{Plan, Schedules}
 use Rattle.def_sweep.specs.Emission.{adjoint_body_with}
 use Rattle.def_sweep.specs.Names.{adjoint_name}
 use Rattle.def_sweep.specs.Marking.{ProgramMarks, first_statement, plan_in}
-use Rattle.def_sweep.specs.Program.{works_used, temps_used, helpers_used_with, adjoint_names_with, adjoint_unit_with, schedules_in}
+use Rattle.def_sweep.specs.Program.{works_used, temps_used, helpers_used_with, adjoint_names_with, made_unit_for, adjoint_unit_with, schedules_in}
 use Rattle.law_sweep.proofs.Variables.{dummy_among}
 use Rattle.law_emitted.proofs.Lists.{Each, each_more}
 use Rattle.law_emitted.proofs.Texts.{Known}
@@ -32,7 +32,7 @@ use Rattle.law_emitted.proofs.Renamed.{written_code}
 use Rattle.law_emitted.proofs.Source.{source_code}
 use Rattle.law_emitted.proofs.Used.{used_helpers_with, used_works, used_temps, all_helped}
 use Rattle.law_emitted.proofs.Sources.{each_name, of_each}
-use Rattle.law_emitted.proofs.Tables.{IsFree, has_var, among, named_free, named_indexed, has_plain, plain_known, has_shadow, has_helper}
+use Rattle.law_emitted.proofs.Tables.{IsFree, AreHelpers, has_var, among, table_for, named_free_for, named_indexed_for, has_plain_for, has_shadow_for, has_helper_for, has_plain, plain_known, has_shadow, has_helper}
 
 -- the marked ones of a list
 pub each_marked : (P : List ℕ → Type 0) (a : Vars) (xs : List (List ℕ)) → Each P xs → Each (λ x. P x × (a (plain x) ≡ true)) (names_in a xs)
@@ -69,26 +69,11 @@ declaration_written line (d ∷ ds) x h a = go (name_eq d.name x) (declaration_w
 other_written : (d : Declaration) (x : List ℕ) → IsName x → IsWrittenDeclaration d → IsWrittenDeclaration (record d { name = x })
 other_written d x h w = record { named = h; few_extents = w.few_extents; extents = w.extents }
 
--- ---- the adjoint of a unit
+-- ---- a unit that is made, with shadows of some variables and with these helpers
 
-module _ (sb : Bool) (m : ProgramMarks) (ps : List Procedure) (units : List (List ℕ)) (u : Procedure) (written : IsWrittenProcedure u) (kernel : IsKernelCode u.body) (free : Each IsFree (variables u)) (calls : Each (CallHasNone ps u) (statements u.body)) (follows : FollowsBy (schedules_in sb ps) Any (plan_in m ps u) (first_statement ps u.name) u.body) where
-  abbrev p : Plan
-  p = plan_in m ps u
-
-  abbrev sc : Schedules
-  sc = schedules_in sb ps
-
-  abbrev i : ℕ
-  i = first_statement ps u.name
-
-  abbrev a : Vars
-  a = m.shadowed u.name
-
-  abbrev hs : List Var
-  hs = helpers_used_with sc p i u.body
-
+module _ (o : Derived) (units : List (List ℕ)) (u : Procedure) (a : Vars) (hs : List Var) (written : IsWrittenProcedure u) (free : Each IsFree (variables u)) (helpers : AreHelpers hs) where
   abbrev ns : List Named
-  ns = adjoint_names_with sb m ps units u
+  ns = table_for o (variables u) units a hs
 
   -- a variable that has a name
   abbrev Q : Var → Option ℕ → Type 0
@@ -97,29 +82,12 @@ module _ (sb : Bool) (m : ProgramMarks) (ps : List Procedure) (units : List (Lis
   abbrev A : Var → Type 0
   A v = Unit {0}
 
-  allows : Allows Q A a p.arrays
-  allows = record {
-    shadows = λ x n marked q. has_shadow (variables u) units a hs free (used_helpers_with sc p i u.body) x (plain_known (variables u) units a hs free (used_helpers_with sc p i u.body) x q) marked;
-    whole = λ x e q. tt;
-    whole_shadows = λ x marked e q. tt;
-    scalars = λ x e q. q;
-  }
-
-  source : OverCode Q A Any u.body
-  source = source_code Q A (Known (variables u)) (λ x n k. has_plain (variables u) units a hs free (used_helpers_with sc p i u.body) x k) ps u u.body written.body kernel (names_known u) calls
-
-  helper_stands : (v : Var) → among v hs ≡ true → Q v (Some 0)
-  helper_stands v h = has_helper (variables u) units a hs free (used_helpers_with sc p i u.body) v h
-
-  body_written : (line : ℕ) (at_turn at_end : List (List ℕ)) → Each (λ x. (has_name x (variables u) ≡ true) × (a (plain x) ≡ true)) at_turn → Each (λ x. (has_name x (variables u) ≡ true) × (a (plain x) ≡ true)) at_end → OverCode Q A Any (adjoint_body_with sc p i line u.body at_turn at_end)
-  body_written line at_turn at_end turned ended =
-      body_over Q A Any sc p allows (works_used p.marks i u.body) (temps_used p.marks i u.body) (λ k low high. helper_stands (helper work k) (used_works sc p i u.body k low high)) (λ k low high. helper_stands (helper temp k) (used_temps sc p i u.body k low high)) i line u.body at_turn at_end follows source (all_helped sc p i u.body Q helper_stands) (omega arith) (omega arith) (stand at_turn turned) (stand at_end ended)
-    where
-      stand : (xs : List (List ℕ)) → Each (λ x. (has_name x (variables u) ≡ true) × (a (plain x) ≡ true)) xs → Each (λ x. Q (plain x) None × (a (plain x) ≡ true)) xs
-      stand xs h = each_more (λ x. (has_name x (variables u) ≡ true) × (a (plain x) ≡ true)) (λ x. Q (plain x) None × (a (plain x) ≡ true)) (λ x k. (has_plain (variables u) units a hs free (used_helpers_with sc p i u.body) x k.0, k.1)) xs h
+  -- the variables of its source have one
+  pub source_formed : (ps : List Procedure) → IsKernelCode u.body → Each (CallHasNone ps u) (statements u.body) → OverCode Q A Any u.body
+  source_formed ps kernel calls = source_code Q A (Known (variables u)) (λ x n k. has_plain_for o (variables u) units a hs free helpers x k) ps u u.body written.body kernel (names_known u) calls
 
   shadow_named : (x : List ℕ) → has_name x (variables u) ≡ true → a (plain x) ≡ true → IsName (name_in ns (shadow x))
-  shadow_named x h marked = (named_free (variables u) units a hs free (used_helpers_with sc p i u.body) (shadow x) (has_shadow (variables u) units a hs free (used_helpers_with sc p i u.body) x h marked)).0
+  shadow_named x h marked = (named_free_for o (variables u) units a hs free helpers (shadow x) (has_shadow_for o (variables u) units a hs free helpers x h marked)).0
 
   dummies_written : (xs : List (List ℕ)) → Each (λ x. IsName x × (has_name x (variables u) ≡ true)) xs → Each IsName (shadows_behind a ns xs)
   dummies_written [] h = tt
@@ -148,7 +116,7 @@ module _ (sb : Bool) (m : ProgramMarks) (ps : List Procedure) (units : List (Lis
   helpers_written line (v ∷ vs) h = All-cons IsWrittenDeclaration (scalar line (name_in ns v)) (declared_helpers ns line vs) (scalar_written line (name_in ns v) h.0) (helpers_written line vs h.1)
 
   helper_names : Each (λ v. IsName (name_in ns v)) hs
-  helper_names = each_var (λ v. IsName (name_in ns v)) hs (λ v h. (named_free (variables u) units a hs free (used_helpers_with sc p i u.body) v (helper_stands v h)).0)
+  helper_names = each_var (λ v. IsName (name_in ns v)) hs (λ v h. (named_free_for o (variables u) units a hs free helpers v (has_helper_for o (variables u) units a hs free helpers v h)).0)
 
   dummies_known : Each (λ x. IsName x × (has_name x (variables u) ≡ true)) u.dummies
   dummies_known = each_name (λ x. IsName x × (has_name x (variables u) ≡ true)) u.dummies (λ x h. let k = dummy_among u x h in ((of_each IsFree (variables u) free x k).0, k))
@@ -156,10 +124,60 @@ module _ (sb : Bool) (m : ProgramMarks) (ps : List Procedure) (units : List (Lis
   variables_known : Each (λ x. IsName x × (has_name x (variables u) ≡ true)) (variables u)
   variables_known = each_name (λ x. IsName x × (has_name x (variables u) ≡ true)) (variables u) (λ x h. ((of_each IsFree (variables u) free x h).0, h))
 
-  pub unit_written : (at_turn at_end : List (List ℕ)) → IsName (adjoint_name ps u) → Each (λ x. (has_name x (variables u) ≡ true) × (a (plain x) ≡ true)) at_turn → Each (λ x. (has_name x (variables u) ≡ true) × (a (plain x) ≡ true)) at_end → IsWrittenProcedure (adjoint_unit_with sb m ps units u at_turn at_end)
-  unit_written at_turn at_end named turned ended = record {
+  -- it is written, where its name is, and its code is formed over what has a name
+  pub made_written : (name : List ℕ) (c : Code) → IsName name → OverCode Q A Any c → IsWrittenProcedure (made_unit_for o name a units u hs c)
+  made_written name c named over = record {
     named = named;
     dummies = all_each IsName (shadows_behind a ns u.dummies) (dummies_written u.dummies dummies_known);
     declarations = All-append IsWrittenDeclaration (declared_behind a ns u (variables u)) (declared_helpers ns u.line hs) (declared_written (variables u) variables_known) (helpers_written u.line hs helper_names);
-    body = written_code Q A Any (naming ns) (λ v n q. named_indexed (variables u) units a hs free (used_helpers_with sc p i u.body) v q) (adjoint_body_with sc p i u.line u.body at_turn at_end) (body_written u.line at_turn at_end turned ended);
+    body = written_code Q A Any (naming ns) (λ v n q. named_indexed_for o (variables u) units a hs free helpers v q) c over;
   }
+
+-- ---- the adjoint of a unit
+
+module _ (sb : Bool) (m : ProgramMarks) (ps : List Procedure) (units : List (List ℕ)) (u : Procedure) (written : IsWrittenProcedure u) (kernel : IsKernelCode u.body) (free : Each IsFree (variables u)) (calls : Each (CallHasNone ps u) (statements u.body)) (follows : FollowsBy (schedules_in sb ps) Any (plan_in m ps u) (first_statement ps u.name) u.body) where
+  abbrev p : Plan
+  p = plan_in m ps u
+
+  abbrev sc : Schedules
+  sc = schedules_in sb ps
+
+  abbrev i : ℕ
+  i = first_statement ps u.name
+
+  abbrev a : Vars
+  a = m.shadowed u.name
+
+  abbrev hs : List Var
+  hs = helpers_used_with sc p i u.body
+
+  abbrev table : List Named
+  table = adjoint_names_with sb m ps units u
+
+  -- a variable that has a name
+  abbrev HasName : Var → Option ℕ → Type 0
+  HasName v n = has_var v table ≡ true
+
+  abbrev Whole : Var → Type 0
+  Whole v = Unit {0}
+
+  allows : Allows HasName Whole a p.arrays
+  allows = record {
+    shadows = λ x n marked q. has_shadow (variables u) units a hs free (used_helpers_with sc p i u.body) x (plain_known (variables u) units a hs free (used_helpers_with sc p i u.body) x q) marked;
+    whole = λ x e q. tt;
+    whole_shadows = λ x marked e q. tt;
+    scalars = λ x e q. q;
+  }
+
+  helper_stands : (v : Var) → among v hs ≡ true → HasName v (Some 0)
+  helper_stands v h = has_helper (variables u) units a hs free (used_helpers_with sc p i u.body) v h
+
+  body_written : (line : ℕ) (at_turn at_end : List (List ℕ)) → Each (λ x. (has_name x (variables u) ≡ true) × (a (plain x) ≡ true)) at_turn → Each (λ x. (has_name x (variables u) ≡ true) × (a (plain x) ≡ true)) at_end → OverCode HasName Whole Any (adjoint_body_with sc p i line u.body at_turn at_end)
+  body_written line at_turn at_end turned ended =
+      body_over HasName Whole Any sc p allows (works_used p.marks i u.body) (temps_used p.marks i u.body) (λ k low high. helper_stands (helper work k) (used_works sc p i u.body k low high)) (λ k low high. helper_stands (helper temp k) (used_temps sc p i u.body k low high)) i line u.body at_turn at_end follows (source_formed adjoint_text units u a hs written free (used_helpers_with sc p i u.body) ps kernel calls) (all_helped sc p i u.body HasName helper_stands) (omega arith) (omega arith) (stand at_turn turned) (stand at_end ended)
+    where
+      stand : (xs : List (List ℕ)) → Each (λ x. (has_name x (variables u) ≡ true) × (a (plain x) ≡ true)) xs → Each (λ x. HasName (plain x) None × (a (plain x) ≡ true)) xs
+      stand xs h = each_more (λ x. (has_name x (variables u) ≡ true) × (a (plain x) ≡ true)) (λ x. HasName (plain x) None × (a (plain x) ≡ true)) (λ x k. (has_plain (variables u) units a hs free (used_helpers_with sc p i u.body) x k.0, k.1)) xs h
+
+  pub unit_written : (at_turn at_end : List (List ℕ)) → IsName (adjoint_name ps u) → Each (λ x. (has_name x (variables u) ≡ true) × (a (plain x) ≡ true)) at_turn → Each (λ x. (has_name x (variables u) ≡ true) × (a (plain x) ≡ true)) at_end → IsWrittenProcedure (adjoint_unit_with sb m ps units u at_turn at_end)
+  unit_written at_turn at_end named turned ended = made_written adjoint_text units u a hs written free (used_helpers_with sc p i u.body) (adjoint_name ps u) (adjoint_body_with sc p i u.line u.body at_turn at_end) named (body_written u.line at_turn at_end turned ended)

@@ -1,5 +1,5 @@
 -- What it means that a program is the adjoint of one that isn't in kernel form, and that what is emitted for the kernel is it. (docs/THEOREMS.md, "Adjoints")
-use Rattle.std.specs.Prelude.{◌≡◌, ℕ, List, Bool, false, Some, None}
+use Rattle.std.specs.Prelude.{◌≡◌, ℕ, List, Bool, Some, None}
 use Rattle.adj_tree.specs.Code.{Procedure}
 use Rattle.adj_tree.specs.Lines.{unlined}
 use Rattle.def_meaning.specs.Written.{find_unit}
@@ -14,11 +14,7 @@ use Rattle.def_sweep.specs.Adjoint.{IsAdjointWith}
 use Rattle.def_kernel.specs.Stepped.{kernel_of}
 use Rattle.law_kernel.specs.Sound.{IsAccepted}
 use Rattle.law_emitted.specs.Checked.{IsChecked}
-use Rattle.def_adjoint.specs.Adjoint.{IsAdjointOfWith}
-
--- where no loop is reversed by a schedule
-abbrev pub IsAdjointOf : (lines : ReversedLines) → ProgramMarks → List Procedure → List ℕ → List Bool → List Bool → List Procedure → Type 0
-IsAdjointOf lines m ps name vars outvars qs = IsAdjointOfWith false lines m ps name vars outvars qs
+use Rattle.def_adjoint.specs.Adjoint.{IsAdjointOf}
 
 -- with full marks, by which no loop is reversed by a schedule
 abbrev pub IsFullAdjointOf : List Procedure → List ℕ → List Bool → List Bool → List Procedure → Type 0
@@ -38,7 +34,7 @@ KernelIsChecked = (ps : List Procedure) → IsAccepted ps → IsChecked run_rule
 abbrev pub KernelsAdjoint : Type 0
 KernelsAdjoint =
     (schedules : Bool) (lines : ReversedLines) (m : ProgramMarks) (ps : List Procedure) → IsAccepted ps → (name : List ℕ) (u : Procedure) → find_unit ps name ≡ Some u → (vars outvars : List Bool) (qs : List Procedure) →
-    IsAdjointWith schedules lines m (kernel_of ps) (unit_number (kernel_of ps) name) vars outvars qs → IsAdjointOfWith schedules lines m ps name vars outvars qs
+    IsAdjointWith schedules lines m (kernel_of ps) (unit_number (kernel_of ps) name) vars outvars qs → IsAdjointOf lines m ps name vars outvars qs
 
 -- so what is emitted for the kernel is an adjoint of the program, with each of its units as the head, and so is what differs from it in
 -- line numbers alone

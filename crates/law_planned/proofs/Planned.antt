@@ -15,7 +15,7 @@ use Rattle.law_kernel.proofs.WholeKernels.{whole_units}
 use Rattle.law_emitted.specs.Shadowed.{AllHaveShadows}
 use Rattle.law_emitted.proofs.Programs.{marked_written}
 use Rattle.law_emitted.proofs.SoundPrograms.{marked_sound}
-use Rattle.def_adjoint.specs.Adjoint.{IsAdjointOfWith}
+use Rattle.def_adjoint.specs.Adjoint.{IsAdjointOf}
 use Rattle.law_emitted.proofs.Kernels.{kernel_checked, numbered}
 use Rattle.law_emitted.proofs.Through.{kernels_adjoint}
 use Rattle.def_flow.specs.Activity.{Activity}
@@ -94,7 +94,7 @@ is_reversed ps y apart name u found vars outvars a l saved held x qs same =
     let n = unit_number (kernel_of ps) name in
     let w = program_facts (kernel_of ps) (λ n. false) a l saved held in
     let lines = reversed_lines w (kernel_of ps) in
-    subst (λ z. IsAdjointOfWith true z w.marks ps name vars outvars qs) (by_marks w (kernel_of ps))
+    subst (λ z. IsAdjointOf z w.marks ps name vars outvars qs) (by_marks w (kernel_of ps))
     (kernels_adjoint true lines w.marks ps y name u found vars outvars qs
     (other_lines true lines w.marks (kernel_of ps) (reversed_for ps name vars outvars w.marks) qs n vars outvars same
     (analysed_reverses run_rules (kernel_problem ps name vars outvars) (kernel_checked ps y) (kernel_apart ps apart) a l saved held x (λ g t s c e. refl) k.becomes (numbered (kernel_of ps) name k.becomes k.found).1)))

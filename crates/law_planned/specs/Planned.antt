@@ -15,8 +15,7 @@ use Rattle.def_kernel.specs.Kernel.{EachUnit}
 use Rattle.def_kernel.specs.Weights.{WeighsAtMost}
 use Rattle.def_kernel.specs.Stepped.{kernel_of}
 use Rattle.law_kernel.specs.Sound.{IsAccepted}
-use Rattle.def_adjoint.specs.Adjoint.{HaveOwnNames, IsAdjointOfWith}
-use Rattle.law_emitted.specs.Accepted.{IsAdjointOf}
+use Rattle.def_adjoint.specs.Adjoint.{HaveOwnNames, IsAdjointOf}
 use Rattle.def_adjoint.specs.CallsAtMost.{CallsAtMost}
 use Rattle.def_adjoint.specs.Calls.{CallsWithin}
 use Rattle.def_adjoint.specs.Spends.{SpendsAtMost}
@@ -79,7 +78,7 @@ ReversedIsAdjoint =
     (ps : List Procedure) → IsAccepted ps → AreLinesApart (program_lines ps) → (name : List ℕ) (u : Procedure) → find_unit ps name ≡ Some u → (vars outvars : List Bool) →
     (a : Activity) (l : Liveness) (saved held : ℕ → Vars) → Analysed (kernel_problem ps name vars outvars) a l saved held → (qs : List Procedure) →
     let m = marks_by ps a l saved held in
-    unlined (reversed_for ps name vars outvars m) ≡ unlined qs → IsAdjointOfWith true (lines_by ps m) m ps name vars outvars qs
+    unlined (reversed_for ps name vars outvars m) ≡ unlined qs → IsAdjointOf (lines_by ps m) m ps name vars outvars qs
 
 -- it can be written as a text
 abbrev pub ReversedIsWritten : Type 0

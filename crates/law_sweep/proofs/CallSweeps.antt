@@ -120,6 +120,10 @@ module _ (dummies actuals : Vars) where
 
 -- ---- the sweeps
 
+-- what is in a set is in it without nothing
+pub without_none : (a : Vars) (v : Var) → In v a → In v (without a nothing)
+without_none a v h = rw h refl
+
 module _ (q : Calls ℤ) (lines : ReversedLines) (qd : Calls (ℤ × ℤ)) (sh : Var → Shape) (level : ℕ) (xs : List Key) (d : ℕ) (p : Plan) (known : KnowsArrays p sh) (w : Facts) (i : ℕ) (g : CalleeFacts) (given : List (List ℕ)) (apart : AreApart g.callee.dummies) (apart' : AreApart given) (laws : CallLaws w i g given) (name : List ℕ) (line : ℕ) (u u' : Store ℤ) (one_call : CallTransposed q lines qd sh level xs g given name line (w.marks.kept i) (w.marks.adjointed i) true u u') where
   abbrev m : Marks
   m = w.marks
@@ -160,9 +164,6 @@ module _ (q : Calls ℤ) (lines : ReversedLines) (qd : Calls (ℤ × ℤ)) (sh :
   abbrev pub call_loops : Bool → List LoopRun
   call_loops true = one_call.loops
   call_loops false = []
-
-  without_none : (a : Vars) (v : Var) → In v a → In v (without a nothing)
-  without_none a v h = rw h refl
 
   needs_later : (v : Var) → In v needed_after → In v needed
   needs_later v h = laws.values.needs v (without_none needed_after v h)

@@ -30,8 +30,9 @@ use Rattle.law_sweep.proofs.Transposed.{Transposed}
 use Rattle.law_sweep.proofs.CallTangents.{tangents_in, tangents_out, shadows_out}
 use Rattle.law_sweep.specs.Kernel.{AsMany}
 use Rattle.law_sweep.proofs.CallDuals.{actuals_bound, dual_in, dual_out}
-use Rattle.law_sweep.proofs.CallAdjoints.{AdjointCalled, CellsMeet, adjoint_called}
+use Rattle.law_sweep.proofs.CallAdjoints.{AdjointCalled, adjoint_called}
 use Rattle.law_sweep.proofs.CallSweeps.{PlainCalled, CallTransposed}
+use Rattle.law_sweep.proofs.Handing.{CellsMeet}
 use Rattle.law_sweep.specs.Steps.{ActualsAgree}
 use Rattle.def_sweep.specs.Reversals.{ReversedLines}
 

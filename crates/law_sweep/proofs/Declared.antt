@@ -1,6 +1,6 @@
 -- An adjoint unit is entered with fitting arrays, and its variables have the shapes that they have in the program.
-use Rattle.std.proofs.Common.{◌≡◌, ℕ, suc, Bool, true, false, List, [], ◌∷◌, map, refl, sym, ap, ◌∙◌, subst, if◌then◌else◌}
-use Rattle.std.specs.Prelude.{ℤ, pos, length, ◌==◌, ◌||◌, ◌&&◌, Some, None}
+use Rattle.std.proofs.Common.{◌≡◌, ℕ, suc, Bool, true, false, List, [], ◌∷◌, map, refl, sym, ap, ◌∙◌, subst, arith, if◌then◌else◌}
+use Rattle.std.specs.Prelude.{ℤ, pos, length, ◌==◌, ◌||◌, ◌&&◌, not, Some, None}
 use Rattle.adj_tree.specs.Code.{Var, plain, shadow, helper, name_eq, var_eq, Extent, fixed, given, Declaration, Procedure}
 use Rattle.adj_tree.proofs.Names.{name_refl}
 use Rattle.def_meaning.specs.Numbers.{words}
@@ -33,6 +33,11 @@ beside_some (e ∷ ds) (a ∷ actuals) m d h = go (name_eq d e) h (beside_some d
     go : (b : Bool) → (b || has_name d ds) ≡ true → (has_name d ds ≡ true → (a : List ℕ) × (beside ds actuals d ≡ Some a)) → (y : List ℕ) × ((if b then Some a else beside ds actuals d) ≡ Some y)
     go true h ih = (a, refl)
     go false h ih = ih h
+
+-- what isn't an array has no extents
+pub no_extents : (l : List Extent) → not (length l == 0) ≡ false → l ≡ []
+no_extents [] h = refl
+no_extents (e ∷ l) h = absurd (let x : length l ≡ length l = refl in grind arith)
 
 -- the extents of a declared variable are among those of the declarations
 pub extent_there : (d : List ℕ) (x : Var) (ds : List Declaration) → names_extent d (declared ds x) ≡ true → is_extent d ds ≡ true

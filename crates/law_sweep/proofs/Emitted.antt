@@ -23,7 +23,8 @@ use Rattle.def_sweep.specs.Schedules.{schedules_by}
 use Rattle.law_sweep.proofs.UnitLists.{found_there}
 use Rattle.law_sweep.proofs.EmittedUnits.{answers_there, adjoint_found, forth_found, back_found, carried_common}
 use Rattle.law_sweep.proofs.Variables.{variables_apart}
-use Rattle.law_sweep.proofs.Made.{has_adjoint_unit, helpers_made, forth_made}
+use Rattle.law_sweep.proofs.Made.{has_adjoint_unit}
+use Rattle.law_sweep.proofs.MadeParts.{helpers_made, forth_made}
 use Rattle.def_sweep.specs.Naming.{adjoint_text}
 use Rattle.law_sweep.proofs.MadeUnits.{has_unit}
 use Rattle.def_sweep.specs.Reversals.{ReversedLines}

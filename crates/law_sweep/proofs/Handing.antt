@@ -26,7 +26,6 @@ use Rattle.law_sweep.specs.Emitted.{AreNamed, name_of}
 use Rattle.law_sweep.proofs.Entering.{writes_as, actuals_at, entry, kept_at, call_comes, call_keeps}
 use Rattle.law_sweep.proofs.Carrying.{pairing_carried}
 use Rattle.law_sweep.proofs.CallTangents.{shadows_in, shadows_out}
-use Rattle.law_sweep.proofs.CallAdjoints.{CellsMeet}
 
 -- ---- the call
 
@@ -35,6 +34,36 @@ pub record HandedBack (shadowed : Vars) (ds given : List (List ℕ)) (f end afte
   pub plains : (x : List ℕ) (j : ℕ) → after (plain x) j ≡ found_or (beside given ds x) (f (plain x) j) (λ d. end (plain d) j)
   pub shadows : (x : List ℕ) (j : ℕ) → after (shadow x) j ≡ found_or (beside given ds x) (f (shadow x) j) (λ d. if shadowed (plain d) then end (shadow d) j else f (shadow x) j)
   pub helpers : (r : Role) (k j : ℕ) → after (helper r k) j ≡ f (helper r k) j
+
+-- it is what is handed out of the unit, where this holds at its end what was handed in, but for the variables that it writes
+module _ (shadowed : Vars) (ds given : List (List ℕ)) (apart : AreApart ds) (apart' : AreApart given) (f end : Store ℤ) (flags : Vars) (unflagged : (v : Var) → flags v ≡ false → (j : ℕ) → end v j ≡ passed_in (pos 0) (bindings shadowed ds given) f v j) where
+  plain_of : (x : List ℕ) (j : ℕ) (o : Option (List ℕ)) → beside given ds x ≡ o → found_or o (f (plain x) j) (λ d. if flags (plain d) then end (plain d) j else f (plain x) j) ≡ found_or o (f (plain x) j) (λ d. end (plain d) j)
+  plain_of x j None e = refl
+  plain_of x j (Some d) e = here (flags (plain d)) refl
+    where
+      here : (w : Bool) → flags (plain d) ≡ w → (if w then end (plain d) j else f (plain x) j) ≡ end (plain d) j
+      here true n = refl
+      here false n =
+          sym (unflagged (plain d) n j ∙ in_plain (pos 0) shadowed f ds given d j
+          ∙ ap (λ o. found_or o (pos 0) (λ y. f (plain y) j)) (beside_back given ds apart' apart x d e))
+
+  shadow_of : (x : List ℕ) (j : ℕ) (o : Option (List ℕ)) → beside given ds x ≡ o → found_or o (f (shadow x) j) (λ d. if shadowed (plain d) && flags (shadow d) then end (shadow d) j else f (shadow x) j) ≡ found_or o (f (shadow x) j) (λ d. if shadowed (plain d) then end (shadow d) j else f (shadow x) j)
+  shadow_of x j None e = refl
+  shadow_of x j (Some d) e = here (shadowed (plain d)) refl (flags (shadow d)) refl
+    where
+      here : (b : Bool) → shadowed (plain d) ≡ b → (w : Bool) → flags (shadow d) ≡ w → (if b && w then end (shadow d) j else f (shadow x) j) ≡ (if b then end (shadow d) j else f (shadow x) j)
+      here true c true n = refl
+      here true c false n =
+          let back : beside ds given d ≡ Some x = beside_back given ds apart' apart x d e in
+          sym (unflagged (shadow d) n j ∙ in_shadow (pos 0) shadowed f ds given d j ∙ rw (c, back) refl)
+      here false c w n = refl
+
+  pub handed_back : HandedBack shadowed ds given f end (passed_out flags (bindings shadowed ds given) end f)
+  handed_back = record {
+    plains = λ x j. out_plain flags shadowed end x j ds given apart' f ∙ plain_of x j (beside given ds x) refl;
+    shadows = λ x j. out_shadow flags shadowed end x j ds given apart' f ∙ shadow_of x j (beside given ds x) refl;
+    helpers = λ o k j. out_helper flags shadowed end o k j ds given f;
+  }
 
 -- the call of a unit with this code, which leads its entry to the store `end`
 pub record UnitCalled (q : Calls ℤ) (sh : Var → Shape) (level : ℕ) (name : List ℕ) (line : ℕ) (shadowed : Vars) (ds given : List (List ℕ)) (base : Course) (f end : Store ℤ) (t t' : List ℤ) (rs : List Reversal) : Type 0 where
@@ -63,11 +92,7 @@ module _ (qs : List Procedure) (depth : ℕ) (sh : Var → Shape) (level : ℕ) 
   unit_called {rs} shG fit shapes line base t t' end run = record {
     after = passed_out flags bs end f;
     runs = call_comes qs depth (on_words sh level) name a found r sep bs named f c body line base t t' end fit inside;
-    handed = record {
-      plains = λ x j. out_plain flags shadowed end x j ds given apart' f ∙ plain_of x j (beside given ds x) refl;
-      shadows = λ x j. out_shadow flags shadowed end x j ds given apart' f ∙ shadow_of x j (beside given ds x) refl;
-      helpers = λ o k j. out_helper flags shadowed end o k j ds given f;
-    };
+    handed = handed_back shadowed ds given apart apart' f end flags unflagged;
   }
     where
       inside : Comes q0 (pulled_setting r (setting_in (on_words sh level) a (entry qs depth (on_words sh level) name a found r sep bs named f))) c (entered base t) start end t t' rs
@@ -77,28 +102,12 @@ module _ (qs : List Procedure) (depth : ℕ) (sh : Var → Shape) (level : ℕ) 
       unflagged : (v : Var) → flags v ≡ false → (j : ℕ) → end v j ≡ start v j
       unflagged v h j = call_keeps qs depth (on_words sh level) name a found r sep bs named f c body base t t' end inside v (name_of (r v)) (plainly_named v) h j
 
-      plain_of : (x : List ℕ) (j : ℕ) (o : Option (List ℕ)) → beside given ds x ≡ o → found_or o (f (plain x) j) (λ d. if flags (plain d) then end (plain d) j else f (plain x) j) ≡ found_or o (f (plain x) j) (λ d. end (plain d) j)
-      plain_of x j None e = refl
-      plain_of x j (Some d) e = here (flags (plain d)) refl
-        where
-          here : (w : Bool) → flags (plain d) ≡ w → (if w then end (plain d) j else f (plain x) j) ≡ end (plain d) j
-          here true n = refl
-          here false n =
-              sym (unflagged (plain d) n j ∙ in_plain (pos 0) shadowed f ds given d j
-              ∙ ap (λ o. found_or o (pos 0) (λ y. f (plain y) j)) (beside_back given ds apart' apart x d e))
-
-      shadow_of : (x : List ℕ) (j : ℕ) (o : Option (List ℕ)) → beside given ds x ≡ o → found_or o (f (shadow x) j) (λ d. if shadowed (plain d) && flags (shadow d) then end (shadow d) j else f (shadow x) j) ≡ found_or o (f (shadow x) j) (λ d. if shadowed (plain d) then end (shadow d) j else f (shadow x) j)
-      shadow_of x j None e = refl
-      shadow_of x j (Some d) e = here (shadowed (plain d)) refl (flags (shadow d)) refl
-        where
-          here : (b : Bool) → shadowed (plain d) ≡ b → (w : Bool) → flags (shadow d) ≡ w → (if b && w then end (shadow d) j else f (shadow x) j) ≡ (if b then end (shadow d) j else f (shadow x) j)
-          here true c true n = refl
-          here true c false n =
-              let back : beside ds given d ≡ Some x = beside_back given ds apart' apart x d e in
-              sym (unflagged (shadow d) n j ∙ in_shadow (pos 0) shadowed f ds given d j ∙ rw (c, back) refl)
-          here false c w n = refl
-
 -- ---- pairing
+
+-- the cells of actuals and of dummies stand for one another
+pub record CellsMeet (g : Callee) (given : List (List ℕ)) (xs ys : List Key) : Type 0 where
+  pub into : (x d : List ℕ) → beside given g.dummies x ≡ Some d → (j : ℕ) → stands_in key_eq (x, j) xs ≡ true → stands_in key_eq (d, j) ys ≡ true
+  pub back : (x d : List ℕ) → beside given g.dummies x ≡ Some d → (j : ℕ) → stands_in key_eq (d, j) ys ≡ true → stands_in key_eq (x, j) xs ≡ true
 
 module _ (g : Callee) (given : List (List ℕ)) (apart : AreApart g.dummies) (apart' : AreApart given) (xs ys : List Key) (apart_xs : IsApart key_eq xs) (apart_ys : IsApart key_eq ys) (meet : CellsMeet g given xs ys) (f end after : Store ℤ) (handed : HandedBack g.shadowed g.dummies given f end after) (change : Words → Words) where
   abbrev pub ds : List (List ℕ)

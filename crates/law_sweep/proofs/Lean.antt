@@ -1,14 +1,11 @@
 -- Facts that spare a call meet the local laws.
 use Rattle.std.proofs.Common.{◌≡◌, ℕ, List, [], ◌∷◌, refl, codes}
-use Rattle.adj_tree.specs.Code.{Procedure}
 use Rattle.def_sweep.specs.Callees.{CalleeFacts}
 use Rattle.law_sweep.specs.Laws.{UnitLaws}
 use Rattle.def_sweep.specs.Emission.{forward, backward}
 use Rattle.def_sweep.specs.Marking.{plan_in, callee_facts}
 use Rattle.law_sweep.specs.Examples.{squares, twice, lean_facts, lean_forward, twice_backward}
-
-abbrev pub both : List Procedure
-both = squares ∷ twice ∷ []
+use Rattle.law_sweep.proofs.SquaresFit.{both}
 
 abbrev pub g : List ℕ → CalleeFacts
 g = callee_facts lean_facts both

@@ -25,6 +25,7 @@ pub mod Taken
 pub mod Transposed
 pub mod CallTangents
 pub mod CallDuals
+pub mod Handing
 pub mod CallAdjoints
 pub mod Snapshots
 pub mod Groups
@@ -43,11 +44,13 @@ pub mod Goings
 pub mod Slots
 pub mod Playing
 pub mod Actions
+pub mod ActionStores
 pub mod Acting
 pub mod Reversing
 pub mod StepRuns
 pub mod StepUnits
 pub mod Reversed
+pub mod ForthStores
 pub mod ReversedForth
 pub mod ReversedRows
 pub mod ReversedLoops
@@ -56,12 +59,14 @@ pub mod LoopStatements
 pub mod LoopRows
 pub mod LoopEnds
 pub mod LoopDone
+pub mod StepCalls
 pub mod ReversedDone
 pub mod Tests
 pub mod WhileSweeps
 pub mod WhileDone
 pub mod Cells
 pub mod Lists
+pub mod CallFacts
 pub mod PlainCalls
 pub mod Units
 pub mod Theorem
@@ -77,8 +82,10 @@ pub mod Assignments
 pub mod AssignmentsDone
 pub mod Full
 pub mod Declared
+pub mod MadeParts
 pub mod Made
 pub mod Heads
+pub mod SquaresFit
 pub mod Lean
 pub mod Fitting
 pub mod Names
@@ -95,7 +102,6 @@ pub mod HeadNames
 pub mod Adjoint
 pub mod Lines
 pub mod Left
-pub mod Handing
 pub mod Entered
 pub mod SplitCalls
 pub mod SplitRow

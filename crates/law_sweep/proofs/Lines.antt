@@ -47,10 +47,11 @@ reversals_unlined (Marked line turns snapshots ∷ es) = reversals_unlined es
 
 -- ---- runs with enough statements
 
--- the unit's run ends, in the output up to line numbers
-record EndsAs {C : Type 0} (n : Numbers C) (ps : List Procedure) (u : Procedure) (input : List (Slot C)) (out : Output C) : Type 0 where
+-- the unit's run ends as another does, in its output up to line numbers and in as many statements
+pub record EndsAs {C : Type 0} (n : Numbers C) (ps : List Procedure) (u : Procedure) (input : List (Slot C)) (out : Output C) (used : ℕ) : Type 0 where
   pub ends : Ends n ps u input
   pub same : unlined_output ends.output ≡ unlined_output out
+  pub spent : ends.used ≡ used
 
 -- what a run that is done gives
 abbrev output_in : {C : Type 0} → Outcome (Output C) → Output C
@@ -58,14 +59,14 @@ output_in (Done output used) = output
 output_in _ = record { slots = []; tape = []; events = [] }
 
 -- where there is more to do there is more to do up to line numbers
-unlined_more : {C : Type 0} (o : Outcome (Output C)) → IsMore o → IsMore (unlined_ending o)
+pub unlined_more : {C : Type 0} (o : Outcome (Output C)) → IsMore o → IsMore (unlined_ending o)
 unlined_more (Done out k) h = absurd h
 unlined_more (Trapped t line w) h = absurd h
 unlined_more (More w) h = tt
 unlined_more (Full w) h = absurd h
 
 -- so it ends where that of the same unit up to line numbers ends
-ends_alike : {C : Type 0} (n : Numbers C) (ps qs : List Procedure) (u v : Procedure) (input : List (Slot C)) → unlined ps ≡ unlined qs → unlined_procedure u ≡ unlined_procedure v → (e : Ends n ps u input) → EndsAs n qs v input e.output
+pub ends_alike : {C : Type 0} (n : Numbers C) (ps qs : List Procedure) (u v : Procedure) (input : List (Slot C)) → unlined ps ≡ unlined qs → unlined_procedure u ≡ unlined_procedure v → (e : Ends n ps u input) → EndsAs n qs v input e.output e.used
 ends_alike {C} n ps qs u v input same like e = go (run_unit n qs v input [] None e.enough) refl
   where
     -- the run is done up to line numbers
@@ -76,7 +77,7 @@ ends_alike {C} n ps qs u v input same like e = go (run_unit n qs v input [] None
     no_more : (k : ℕ) → e.enough ≤ k → IsMore (run_unit n qs v input [] None k) → ⊥
     no_more k le m = subst IsMore (done k le) (unlined_more (run_unit n qs v input [] None k) m)
 
-    go : (o : Outcome (Output C)) → run_unit n qs v input [] None e.enough ≡ o → EndsAs n qs v input e.output
+    go : (o : Outcome (Output C)) → run_unit n qs v input [] None e.enough ≡ o → EndsAs n qs v input e.output e.used
     go (Done got k) is =
         let z : Done (unlined_output got) k ≡ Done (unlined_output e.output) e.used = ap unlined_ending (sym is) ∙ done e.enough (omega arith) in
         record {
@@ -87,6 +88,7 @@ ends_alike {C} n ps qs u v input same like e = go (run_unit n qs v input [] None
             runs = λ m le. one_end n qs v input [] None m e.enough (no_more m le) (no_more e.enough (omega arith)) ∙ is;
           };
           same = ap output_in z;
+          spent = cc;
         }
     go (Trapped t line w) is = absurd (let z : Trapped t 0 (unlined_stand w) ≡ Done (unlined_output e.output) e.used = ap unlined_ending (sym is) ∙ done e.enough (omega arith) in cc)
     go (More w) is = absurd (no_more e.enough (omega arith) (subst IsMore (sym is) tt))
@@ -111,12 +113,8 @@ module _ (ps : List Procedure) (vars outvars : List Bool) (qs others : List Proc
         others = subst (λ z. OthersAreZero vars (shadow_cells flags z)) slots t.others;
       }
 
-  -- the unit of a name, up to line numbers
-  found : (name : List ℕ) → unlined_found (find_unit qs name) ≡ unlined_found (find_unit others name)
-  found name = sym (find_unlined qs name) ∙ ap (λ z. find_unit z name) same ∙ find_unlined others name
-
 -- the same unit up to line numbers is there
-record IsThere (others : List Procedure) (name : List ℕ) (a : Procedure) : Type 0 where
+pub record IsThere (others : List Procedure) (name : List ℕ) (a : Procedure) : Type 0 where
   pub unit : Procedure
   pub is : find_unit others name ≡ Some unit
   pub like : unlined_procedure a ≡ unlined_procedure unit
@@ -125,15 +123,19 @@ abbrev found_or : Procedure → Option Procedure → Procedure
 found_or u None = u
 found_or u (Some v) = v
 
-there : (others : List Procedure) (name : List ℕ) (a : Procedure) (o : Option Procedure) → find_unit others name ≡ o → Some (unlined_procedure a) ≡ unlined_found o → IsThere others name a
-there others name a None is e = absurd cc
-there others name a (Some b) is e = record { unit = b; is = is; like = ap (found_or (unlined_procedure a)) e }
+-- so a unit of a name is there in each program that is the same up to line numbers
+pub there : (qs others : List Procedure) → unlined qs ≡ unlined others → (name : List ℕ) (a : Procedure) → find_unit qs name ≡ Some a → IsThere others name a
+there qs others same name a found = go (find_unit others name) refl (ap unlined_found (sym found) ∙ sym (find_unlined qs name) ∙ ap (λ z. find_unit z name) same ∙ find_unlined others name)
+  where
+    go : (o : Option Procedure) → find_unit others name ≡ o → Some (unlined_procedure a) ≡ unlined_found o → IsThere others name a
+    go None is e = absurd cc
+    go (Some b) is e = record { unit = b; is = is; like = ap (found_or (unlined_procedure a)) e }
 
 -- a program that is the same up to line numbers is an adjoint as well
 pub other_lines : OtherLines
 other_lines sc lines m ps qs others head vars outvars same h =
     let name = adjoint_name ps h.unit in
-    let t = there others name h.adjoint (find_unit others name) refl (ap unlined_found (sym h.is_there) ∙ found ps vars outvars qs others same name) in
+    let t = there qs others same name h.adjoint h.is_there in
     record {
       unit = h.unit;
       is_head = h.is_head;

@@ -40,7 +40,8 @@ use Rattle.def_sweep.specs.ReversalCode.{row_forward, row_backward}
 use Rattle.law_sweep.proofs.ByStep.{Reversed, step_known}
 use Rattle.law_sweep.proofs.StepRuns.{steps_run}
 use Rattle.law_sweep.proofs.Slots.{slots_marked, slots_found}
-use Rattle.law_sweep.proofs.ReversedDone.{AtAnyLine, transposed_reversed}
+use Rattle.law_sweep.proofs.StepCalls.{AtAnyLine}
+use Rattle.law_sweep.proofs.ReversedDone.{transposed_reversed}
 use Rattle.law_sweep.proofs.CallStatements.{transposed_call}
 use Rattle.def_sweep.specs.SplitRows.{split_forward, split_backward}
 use Rattle.law_sweep.proofs.SplitRow.{dummies_in, SplitTransposed, transposed_split}
@@ -54,7 +55,7 @@ use Rattle.law_sweep.proofs.Cells.{cells_has, cells_apart}
 use Rattle.def_sweep.specs.Reversals.{ReversedLines}
 
 -- what an actual that isn't handed back is: no actual of a dummy that is written
-unwritten_actual : (f : List ℕ → Bool) (x : List ℕ) (ds given : List (List ℕ)) → AsMany ds given → is_handed_back (plain x) (map f ds) (actuals_named given) ≡ false → found_or (beside given ds x) false f ≡ false
+pub unwritten_actual : (f : List ℕ → Bool) (x : List ℕ) (ds given : List (List ℕ)) → AsMany ds given → is_handed_back (plain x) (map f ds) (actuals_named given) ≡ false → found_or (beside given ds x) false f ≡ false
 unwritten_actual f x [] [] m h = refl
 unwritten_actual f x [] (a ∷ given) m h = absurd m
 unwritten_actual f x (d ∷ ds) [] m h = absurd m
@@ -64,6 +65,10 @@ unwritten_actual f x (d ∷ ds) (a ∷ given) m h = go (name_eq x a) refl (f d) 
     go true e true t o ih = absurd (let c : true ≡ false = sym (rw (e, t) refl) ∙ o.0 in cc)
     go true e false t o ih = t
     go false e t et o ih = ih o.1
+
+-- what is emitted for a call that isn't split
+pub unsplit_there : (split answered paired carried present adjointed kept : Bool) → split ≡ false → IsThere split answered paired carried present adjointed kept → IsThere false answered paired carried present adjointed kept
+unsplit_there split a p c r t k h there = subst (λ b. IsThere b a p c r t k) h there
 
 module _ (sb : Bool) (p q : Calls ℤ) (free : AtAnyLine q) (lines : ReversedLines) (qd : Calls (ℤ × ℤ)) (ps : List Procedure) (handed : Dummies) (callees : List ℕ → CalleeFacts) (answers paired carried inside : List ℕ → Bool) (w : Facts) (present : Bool) (vars : List (List ℕ)) (arrays : Vars) (apart : AreApart vars) (sh : Var → Shape) (level : ℕ) (known : KnowsArrays (plan_of callees w arrays) sh)
     -- the units of the program: their names of dummies, what they hand back, and that what is varied and useful at their ends has a shadow
@@ -220,10 +225,6 @@ module _ (sb : Bool) (p q : Calls ℤ) (free : AtAnyLine q) (lines : ReversedLin
         (same_loop_store line n.value (in_force np mark s.store) o.scene e (done_same (after_loop line n.value (in_force np mark s.store) o.scene) e o.left left o.second))
         (turns_swept x a b c body mark i d line s o.scene k o.left va.value vb.value vc.value n.value f laws va.is vb.is vc.is n.is o.first each)
 
-    -- what is emitted for a call that isn't split
-    unsplit_there : (b answered paired1 carried1 adjointed kept : Bool) → b ≡ false → IsThere b answered paired1 carried1 present adjointed kept → IsThere false answered paired1 carried1 present adjointed kept
-    unsplit_there b a1 a2 a3 a4 a5 h t = subst (λ z. IsThere z a1 a2 a3 present a4 a5) h t
-
     -- a DO that is reversed by a schedule: its body is its step call
     step_swept : (x : List ℕ) (a b c : Term) (at : ℕ) (t : Step) (i d line : ℕ) (s e : Scene ℤ) (k left : ℕ) →
         let body = one at (call t.name (actuals_named t.given)) in
@@ -252,7 +253,7 @@ module _ (sb : Bool) (p q : Calls ℤ) (free : AtAnyLine q) (lines : ReversedLin
         (own t.name fc.unit fc.found n.0) apart_ds fc.apart (entry_shadows t.name fc.unit fc.found n.0) (end_shadows t.name fc.unit fc.found n.0) (free_of x f.spares)
         va.value vb.value vc.value l.value s.store e.store va.is vb.is vc.is l.is force.0 force.1 (λ j. (r.before j).store) (λ j. (r.behind j).store)
         (ap (λ (z : Scene ℤ). z.store) r.starts) (λ j less. ap (λ (z : Scene ℤ). z.store) (r.next j less)) (ap (λ (z : Scene ℤ). z.store) r.ends ∙ stores)
-        (λ j less. turn_call (r.before j) (r.behind j) (r.given j) (r.left j) (r.done j less) (laws.call.shadows_actual) fc (unsplit_there (m.split (suc i)) (answers t.name) (paired t.name) (carried t.name) (m.adjointed (suc i)) (m.kept (suc i)) laws.unsplit fl.0.1).0 rf.emitted n.0)
+        (λ j less. turn_call (r.before j) (r.behind j) (r.given j) (r.left j) (r.done j less) (laws.call.shadows_actual) fc (unsplit_there (m.split (suc i)) (answers t.name) (paired t.name) (carried t.name) present (m.adjointed (suc i)) (m.kept (suc i)) laws.unsplit fl.0.1).0 rf.emitted n.0)
         (is_plain m (suc i) body))
       where
         turn_call : (s0 e0 : Scene ℤ) (k0 l0 : ℕ) → run p np (one at (call t.name (actuals_named t.given))) s0 k0 ≡ Done e0 l0 → ((g a : List ℕ) → IsActual (callees t.name).callee.dummies t.given g a → In (plain g) (callees t.name).callee.shadowed → In (plain a) m.shadowed) → CallFits ps vars arrays (callees t.name) t.name t.given → (present ≡ true → m.adjointed (suc i) ≡ true → answers t.name ≡ true) → (present ≡ true → carried t.name ≡ true) → IsTrue (inside t.name) → CallTransposed q lines qd sh level xs (callees t.name) t.given t.name at true true present s0.store e0.store

@@ -22,7 +22,7 @@ use Rattle.law_sweep.specs.Passing.{bindings}
 use Rattle.law_sweep.specs.Emitted.{AreNamed, DeclaredAlike, HasUnit}
 use Rattle.def_sweep.specs.Program.{made_unit_for}
 use Rattle.law_sweep.proofs.Variables.{dummy_among, undeclared}
-use Rattle.law_sweep.proofs.Made.{inside-made, inside-among, made-append, helpers_none, looked, behind, look_plain, look_shadow, look_helper}
+use Rattle.law_sweep.proofs.MadeParts.{inside-made, inside-among, made-append, helpers_none, looked, behind, look_plain, look_shadow, look_helper}
 
 -- ---- any unit that is made from one
 
@@ -42,7 +42,7 @@ module _ (o : Derived) (name : List ℕ) (a : Vars) (g : Callee) (units : List (
   pub separates : (v w : Var) → var_eq (naming ns v) (naming ns w) ≡ var_eq v w
   separates = naming-apart ns (unit_names_for-apart o (variables u) units made apart) (unit_names_for-inside o (variables u) units made inside made_inside)
 
-  own : (x : List ℕ) → has_name x (variables u) ≡ true → name_in ns (plain x) ≡ x
+  pub own : (x : List ℕ) → has_name x (variables u) ≡ true → name_in ns (plain x) ≡ x
   own x h = own-name (variables u) (named_for o (variables u ++ (units ++ reserved)) made) x h
 
   pub own_dummy : (x : List ℕ) → has_name x u.dummies ≡ true → name_in ns (plain x) ≡ x
@@ -79,7 +79,7 @@ module _ (o : Derived) (name : List ℕ) (a : Vars) (g : Callee) (units : List (
   }
 
   -- each dummy is followed by its shadow
-  dummies_named : (ds actuals : List (List ℕ)) → ((x : List ℕ) → has_name x ds ≡ true → name_in ns (plain x) ≡ x) → AsMany ds actuals → AreNamed (naming ns) (shadows_behind a ns ds) (bindings a ds actuals)
+  pub dummies_named : (ds actuals : List (List ℕ)) → ((x : List ℕ) → has_name x ds ≡ true → name_in ns (plain x) ≡ x) → AsMany ds actuals → AreNamed (naming ns) (shadows_behind a ns ds) (bindings a ds actuals)
   dummies_named [] [] o many = tt
   dummies_named [] (y ∷ actuals) o many = tt
   dummies_named (d ∷ ds) [] o many = absurd many

@@ -27,13 +27,13 @@ past zero list = list
 past (suc k) [] = []
 past (suc k) (a ∷ list) = past k list
 
-past_one : (k : ℕ) (list : List Action) (a : Action) (rest : List Action) → past k list ≡ a ∷ rest → past (suc k) list ≡ rest
+pub past_one : (k : ℕ) (list : List Action) (a : Action) (rest : List Action) → past k list ≡ a ∷ rest → past (suc k) list ≡ rest
 past_one zero [] a rest h = cc
 past_one zero (b ∷ list) a rest h = cc
 past_one (suc k) [] a rest h = cc
 past_one (suc k) (b ∷ list) a rest h = past_one k list a rest h
 
-past_some : (xs : List Action) (k : ℕ) (list rest : List Action) → past k list ≡ xs ++ rest → past (k + length xs) list ≡ rest
+pub past_some : (xs : List Action) (k : ℕ) (list rest : List Action) → past k list ≡ xs ++ rest → past (k + length xs) list ≡ rest
 past_some [] k list rest h = let e : k + 0 ≡ k = omega arith in ap (λ z. past z list) e ∙ h
 past_some (a ∷ xs) k list rest h = let e : k + suc (length xs) ≡ suc k + length xs = omega arith in ap (λ z. past z list) e ∙ past_some xs (suc k) list rest (past_one k list a (xs ++ rest) h)
 

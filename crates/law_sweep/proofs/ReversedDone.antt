@@ -1,15 +1,12 @@
 -- A marked loop that is reversed by a schedule and was done: its derivative and its sweeps.
-use Rattle.std.proofs.Common.{◌≡◌, ◌<◌, ℕ, zero, suc, ◌+◌, Bool, true, false, List, [], ◌∷◌, ◌++◌, refl, sym, ap, ◌∙◌, subst, arith}
+use Rattle.std.proofs.Common.{◌≡◌, ◌<◌, ℕ, zero, suc, ◌+◌, Bool, true, false, List, ◌∷◌, ◌++◌, refl, sym, ap, ◌∙◌, subst, arith}
 use Rattle.std.specs.Prelude.{ℤ, pos, Ok, ◌&&◌, ◌||◌, not, Some}
-use Rattle.adj_tree.specs.Code.{Var, plain, shadow, name_eq, Term, Terms, none, assign, loop, call, runtime, push_word, pop_word, Code, stop}
-use Rattle.adj_tree.proofs.Names.{name_refl}
-use Rattle.adj_word.specs.Word.{wrap, add, mul}
+use Rattle.adj_tree.specs.Code.{Var, plain, shadow, name_eq, Term, none, assign, loop, call, runtime, push_word, pop_word, Code, stop}
+use Rattle.adj_word.specs.Word.{wrap, add}
 use Rattle.adj_word.specs.Pairing.{put, stands_in, IsApart}
-use Rattle.adj_word.proofs.Counting.{start_step, one_step}
 use Rattle.def_meaning.specs.Append.{◌+++◌, one}
 use Rattle.def_meaning.specs.Store.{Shape, size_of, Store, set}
 use Rattle.def_meaning.specs.Value.{Setting, value}
-use Rattle.def_meaning.specs.Scene.{Scene, Done}
 use Rattle.def_meaning.specs.Run.{Calls, trips, in_force}
 use Rattle.def_meaning.specs.Read.{reads_term}
 use Rattle.def_names.specs.Numbers.{Vars}
@@ -19,19 +16,19 @@ use Rattle.def_sweep.specs.Marked.{code_if}
 use Rattle.def_sweep.specs.Facts.{In, joined, Facts}
 use Rattle.def_meaning.specs.Apart.{AreApart}
 use Rattle.law_sweep.specs.Pairs.{Key, key_eq, Words, with_tangents, on_words, on_duals}
-use Rattle.law_sweep.specs.Scenes.{Course, scene}
+use Rattle.law_sweep.specs.Scenes.{Course}
 use Rattle.def_names.proofs.Variables.{or_false}
 use Rattle.def_sweep.specs.Plan.{Plan, actuals_named, Step, writes_actual}
-use Rattle.def_sweep.specs.Rows.{with_shadows, resets, literal}
+use Rattle.def_sweep.specs.Rows.{resets, literal}
 use Rattle.def_sweep.specs.ReversalCode.{row_forward, row_backward}
 use Rattle.def_sweep.specs.Callees.{nothing, CalleeFacts}
 use Rattle.law_sweep.specs.Laws.{just, point_inside, ReversedLaws}
 use Rattle.law_sweep.specs.Kernel.{ReversalFits, AllText}
 use Rattle.law_sweep.specs.Passing.{plainly}
-use Rattle.def_sweep.specs.Reversals.{LoopRun, Reversal, Called, ReversedLines}
+use Rattle.def_sweep.specs.Reversals.{LoopRun, ReversedLines}
 use Rattle.law_sweep.specs.ReversedRow.{ReversedRow}
 use Rattle.law_sweep.specs.Runs.{Passes, SameOn}
-use Rattle.law_sweep.specs.Steps.{ActGoes, AdjointStep, Steps, StepFits, changes, loops_of}
+use Rattle.law_sweep.specs.Steps.{StepFits, changes, loops_of}
 use Rattle.def_sweep.specs.StepUnits.{step_units}
 use Rattle.law_sweep.specs.Theorem.{plan_of}
 use Rattle.law_sweep.proofs.Runs.{passes_one}
@@ -47,27 +44,13 @@ use Rattle.law_sweep.proofs.Turns.{TurnsPass}
 use Rattle.law_sweep.proofs.Loops.{loop_passes_own, turning}
 use Rattle.law_sweep.proofs.LoopTangents.{LoopTangents, set_dual, put_there, matches_cut, tangents_none, tangents_more}
 use Rattle.law_sweep.proofs.LoopEnds.{reset_words, reset_other, reset_zero, ended_sweeps}
-use Rattle.law_sweep.proofs.StepRuns.{Chosen, choose_each, turns_few}
+use Rattle.law_sweep.proofs.StepRuns.{turns_few}
+use Rattle.law_sweep.proofs.StepCalls as calls
+use Rattle.law_sweep.proofs.StepCalls.{AtAnyLine}
 use Rattle.law_sweep.proofs.ReversedLoops.{reversed_rows_turn}
 
 not_true : false ≡ true → ⊥
 not_true e = cc
-
--- calls do the same whatever line they stand at
-abbrev pub AtAnyLine : Calls ℤ → Type 0
-AtAnyLine q = (n : Setting ℤ) (name : List ℕ) (args : Terms) (one other : ℕ) (s e : Scene ℤ) (k left : ℕ) → q n name args one s k ≡ Done e left → q n name args other s k ≡ Done e left
-
-goes_elsewhere : (q : Calls ℤ) → AtAnyLine q → (n : Setting ℤ) (name : List ℕ) (args : Terms) (one other : ℕ) (base : Course) (s s' : Store ℤ) (t t' : List ℤ) (calls : List Called) (rs : List Reversal) → ActGoes q n (call name args) one base s s' t t' calls rs → ActGoes q n (call name args) other base s s' t t' calls rs
-goes_elsewhere q free n name args one other base s s' t t' calls rs g = record {
-  later = g.later;
-  tells = g.tells;
-  runs = record { cost = g.runs.cost; by = λ k. free n name args one other (scene base s t) (scene g.later s' t') (g.runs.cost + k) k (g.runs.by k) };
-}
-
--- what a turn makes of tangents in the sweeps, and its runs of loops
-record TurnMakes : Type 0 where
-  pub change : Words → Words
-  pub loops : List LoopRun
 
 module _ (q : Calls ℤ) (free : AtAnyLine q) (lines : ReversedLines) (qd : Calls (ℤ × ℤ)) (sh : Var → Shape) (level : ℕ) (xs : List Key) (apart : IsApart key_eq xs) (w : Facts) (d : ℕ) (present carried : Bool) (callees : List ℕ → CalleeFacts) (arrays : Vars) (known : KnowsArrays (plan_of callees w arrays) sh) (i line at : ℕ) (x : List ℕ) (one_cell : size_of (sh (plain x)) ≡ 1) (in_list : stands_in key_eq (x, 0) xs ≡ true) (ea eb ec : Term) (s : Step) (text_a : AllText (λ v. reads_term v ea)) (text_b : AllText (λ v. reads_term v eb)) (text_c : AllText (λ v. reads_term v ec))
     (laws : ReversedLaws w i x ea eb ec s.mark (callees s.name) s.given) (read_is : s.read ≡ (callees s.name).read) (own_line : lines line ≡ Some (step_units s.name (callees s.name).callee s.read)) (fits : ReversalFits (callees s.name) present carried s)
@@ -131,20 +114,15 @@ module _ (q : Calls ℤ) (free : AtAnyLine q) (lines : ReversedLines) (qd : Call
 
   module _ (a0 b0 c0 : ℤ) (l : ℕ) (u u' : Store ℤ) (is_a : value np ea u ≡ Ok a0) (is_b : value np eb u ≡ Ok b0) (is_c : value np ec u ≡ Ok c0) (turns_is : trips s.mark a0 b0 c0 ≡ Ok l) (snapshots : ℕ) (force_is : in_force np s.mark u ≡ Some snapshots) (U U' : ℕ → Store ℤ)
       (starts : U 0 ≡ set u (plain x) 0 (wrap a0)) (nexts : (j : ℕ) → j < l → U (suc j) ≡ set (U' j) (plain x) 0 (add (U' j (plain x) 0) c0)) (ends : U l ≡ u') (each : (j : ℕ) → j < l → Called' (U j) (U' j)) where
-    -- the call of a turn, and what it makes
-    record TurnIs (j : ℕ) (made : TurnMakes) : Type 0 where
-      call : Called' (U j) (U' j)
-      change_is : made.change ≡ shadows_out g.callee.shadowed ds s.given call.change
-      loops_are : made.loops ≡ call.loops
-
-    made : Chosen TurnIs l
-    made = choose_each TurnIs (record { change = λ y. y; loops = [] }) l (λ j less. let c = each j less in (record { change = shadows_out g.callee.shadowed ds s.given c.change; loops = c.loops }, record { call = c; change_is = refl; loops_are = refl }))
+    -- the calls of the turns, and what they make
+    abbrev made : calls.Made q free lines qd sh level xs g s.given s.name present line at x x_free l a0 c0 u U U' starts nexts each
+    made = calls.made q free lines qd sh level xs g s.given s.name present line at x x_free l a0 c0 u U U' starts nexts each
 
     abbrev change_at : ℕ → Words → Words
-    change_at j = (made.at j).change
+    change_at = calls.change_at q free lines qd sh level xs g s.given s.name present line at x x_free l a0 c0 u U U' starts nexts each
 
     abbrev loops_at : ℕ → List LoopRun
-    loops_at j = (made.at j).loops
+    loops_at = calls.loops_at q free lines qd sh level xs g s.given s.name present line at x x_free l a0 c0 u U U' starts nexts each
 
     abbrev all_loops : List LoopRun
     all_loops = loops_of loops_at 0 l
@@ -219,51 +197,6 @@ module _ (q : Calls ℤ) (free : AtAnyLine q) (lines : ReversedLines) (qd : Call
 
     -- ---- the sweeps
 
-    at_step : (j : ℕ) → j < l → U j (plain x) 0 ≡ add a0 (mul (pos j) c0)
-    at_step zero less = ap (λ (z : Store ℤ). z (plain x) 0) starts ∙ rw (name_refl x) (start_step a0 c0)
-    at_step (suc j) less =
-        let before : j < l = omega arith in
-        let t = made.is j before in
-        ap (λ (z : Store ℤ). z (plain x) 0) (nexts j before) ∙ rw (name_refl x) (ap (λ v. add v c0) (t.call.off.at x 0 x_free ∙ at_step j before) ∙ one_step a0 c0 j)
-
-    abbrev the_steps : Type 0
-    the_steps = Steps q sh level xs line x g s.given s.name l a0 c0 change_at loops_at U U'
-
-    steps : present ≡ true → the_steps
-    steps pr = record {
-      at_step = at_step;
-      between = λ j y k less n. ap (λ (z : Store ℤ). z (plain y) k) (nexts j less) ∙ rw n refl;
-      off = λ j less. (made.is j less).call.off;
-      again = λ j base f t less agree.
-          let c = (made.is j less).call.again pr refl base f t agree in
-          record {
-            after = c.after;
-            shapes = c.shapes;
-            takes = c.takes g.read;
-            runs = goes_elsewhere q free (on_words sh level) s.name (actuals_named s.given) at line base f c.after t t _ [] c.goes;
-            same = c.same;
-            off = c.off;
-            shades = c.shadows;
-            helpers = c.helpers;
-          };
-      back = λ j base f t less agree.
-          let k = made.is j less in
-          let c = k.call.back pr refl base f t agree in
-          subst (λ (z : Words → Words). AdjointStep q sh level xs line x g s.given s.name z (loops_at j) base f t) (sym k.change_is)
-          (subst (λ z. AdjointStep q sh level xs line x g s.given s.name (shadows_out g.callee.shadowed ds s.given k.call.change) z base f t) (sym k.loops_are)
-          (record {
-            after = c.after;
-            rs = c.reversals;
-            shapes = c.shapes;
-            takes = c.takes g.read;
-            runs = goes_elsewhere q free (on_words sh level) g.callee.adjoint (with_shadows g.callee.shadowed ds s.given) at line base f c.after t t _ c.reversals c.goes;
-            reversed = c.reversed;
-            off = c.off;
-            helpers = c.helpers;
-            pairs = c.pairs;
-          }));
-    }
-
     step_fits : StepFits q sh level xs line x g s.given s.name plan
     step_fits = record {
       scalars = known;
@@ -279,7 +212,7 @@ module _ (q : Calls ℤ) (free : AtAnyLine q) (lines : ReversedLines) (qd : Call
     rows pr b f t same =
         subst (λ (z : Store ℤ). ReversedRow q sh level xs d x wrote (w.needed (point_after i)) (w.held (point_after i)) (w.held (point_before i)) (row_forward plan i (suc d) line x ea eb ec s) (row_backward plan i (suc d) line x s) b z f t (changes change_at 0 l) (own_run ∷ all_loops)) ends
         (subst (λ (z : Vars). let v : Step = record { name = s.name; given = s.given; read = z; mark = s.mark } in ReversedRow q sh level xs d x wrote (w.needed (point_after i)) (w.held (point_after i)) (w.held (point_before i)) (row_forward plan i (suc d) line x ea eb ec v) (row_backward plan i (suc d) line x v) b (U l) f t (changes change_at 0 l) (own_run ∷ all_loops)) (sym read_is)
-        (reversed_rows_turn q sh level xs line x callees s.given s.name w arrays step_fits i d ea eb ec s.mark fits.slots laws text_a text_b text_c l snapshots (turns_few s.mark a0 b0 c0 l (slots_marked s.mark fits.slots) turns_is) u a0 b0 c0 is_a is_b is_c (turning s.mark a0 b0 c0 l turns_is).plainly force_is change_at loops_at U U' starts nexts (steps pr) line b f t same))
+        (reversed_rows_turn q sh level xs line x callees s.given s.name w arrays step_fits i d ea eb ec s.mark fits.slots laws text_a text_b text_c l snapshots (turns_few s.mark a0 b0 c0 l (slots_marked s.mark fits.slots) turns_is) u a0 b0 c0 is_a is_b is_c (turning s.mark a0 b0 c0 l turns_is).plainly force_is change_at loops_at U U' starts nexts (calls.steps q free lines qd sh level xs g s.given s.name present line at x x_free l a0 c0 u U U' starts nexts each pr) line b f t same))
 
     abbrev forward_code : Code
     forward_code = code_if (m.kept i || m.adjointed i) (code_if (m.saved i (plain x)) (one line (runtime (push_word (plain x) none))) +++ row_forward plan i (suc d) line x ea eb ec s)

@@ -39,7 +39,8 @@ use Rattle.law_sweep.proofs.Slots.{few_slots, force_again, slots_trail, with_slo
 use Rattle.law_sweep.proofs.Goings.{loop_goes}
 use Rattle.law_sweep.specs.Steps.{changes, loops_of, Steps}
 use Rattle.law_sweep.proofs.StepRuns.{NumbersFit, numbers_few}
-use Rattle.law_sweep.proofs.ReversedForth.{needed_through, enters, leaves, turns_forth}
+use Rattle.law_sweep.proofs.ForthStores.{needed_through, enters, leaves}
+use Rattle.law_sweep.proofs.ReversedForth.{turns_forth}
 use Rattle.law_sweep.proofs.ReversedRows.{reversed_back, own_run, wr, snap, saves}
 
 module _ (q : Calls ℤ) (sh : Var → Shape) (level : ℕ) (cells : List Key) (d line : ℕ) (p : Plan) (known : KnowsArrays p sh) (x : List ℕ) (one_cell : size_of (sh (plain x)) ≡ 1) (l m : ℕ) (mark : Mark) (a0 b0 c0 : ℤ) (g : CalleeFacts) (given : List (List ℕ)) (apart : AreApart g.callee.dummies) (apart' : AreApart given) (name : List ℕ) (change : ℕ → Words → Words) (loops : ℕ → List LoopRun) (U U' : ℕ → Store ℤ)
@@ -119,27 +120,27 @@ module _ (q : Calls ℤ) (sh : Var → Shape) (level : ℕ) (cells : List Key) (
       let taken = group_pushed q sh level p line known snapshot f3 in
       let t1 = saved.trail ++ t in
       let t2 = taken.trail ++ t1 in
-      let through = needed_through q sh level cells d line p known x one_cell l m mark a0 c0 g given apart apart' name change loops U U' w i ea eb ec laws numbers.small s nexts (w.marks.kept (suc i)) in
+      let through = needed_through w i (w.marks.kept (suc i)) in
       let same4 : SameOn sh through (U 0) f4 =
-      subst (λ (z : Store ℤ). SameOn sh through z f4) (sym starts) (same_set sh x one_cell needed through u f3 (wrap a0) (wrap a0) refl (λ y n h. enters q sh level cells d line p known x one_cell l m mark a0 c0 g given apart apart' name change loops U U' w i ea eb ec laws numbers.small s nexts (w.marks.kept (suc i)) y n h) same3) in
+      subst (λ (z : Store ℤ). SameOn sh through z f4) (sym starts) (same_set sh x one_cell needed through u f3 (wrap a0) (wrap a0) refl (λ y n h. enters x mark g given w i ea eb ec laws (w.marks.kept (suc i)) y n h) same3) in
       let value4 : f4 (plain x) 0 ≡ U 0 (plain x) 0 = rw (name_refl x) (sym (ap (λ (z : Store ℤ). z (plain x) 0) starts ∙ rw (name_refl x) refl)) in
       let r = turns_forth q sh level cells d line p known x one_cell l m mark a0 c0 g given apart apart' name change loops U U' w i ea eb ec laws numbers.small s nexts x_free l 0 b f4 t2 (omega arith) same4 value4 count_is in
       let looped = loop_goes q nw line (plain x) (var (helper first (suc d))) eb (var (helper stride (suc d))) (kept_call +++ one line (assign (helper count (suc d)) none (bin plus (var (helper count (suc d))) (literal 1)))) b f3 r.to t2 t2 a0 b0 c0 l r.calls []
       (ap Ok first_is) (value_again sh level needed u f3 same3 eb text_b uses_b ∙ is_b) (ap Ok stride_is) turns_is r.runs in
       let after = looped.later in
       let none_else : 0 + l ≡ l = omega arith in
-      let counted : r.to (helper count (suc d)) 0 ≡ pos l = r.counted_is ∙ ap pos none_else in
+      let counted : r.to (helper count (suc d)) 0 ≡ pos l = r.moved.counted_is ∙ ap pos none_else in
       let slots_then = slots_trail mark m ++ (c0 ∷ (a0 ∷ t2)) in
       let full = pos l ∷ slots_then in
       let tail : Leads q nw (push_own line (helper first (suc d)) (push_own line (helper stride (suc d)) (push_slots line (suc d) mark behind_pushed))) (scene after r.to t2) (scene after r.to full) =
-      leads_step q nw line (runtime (push_word (helper first (suc d)) none)) _ (scene after r.to t2) (scene after r.to (a0 ∷ t2)) (scene after r.to full) (λ k. ap (λ (z : ℤ). Done (scene after r.to (z ∷ t2)) k) (r.first_is ∙ first_is))
-      (leads_step q nw line (runtime (push_word (helper stride (suc d)) none)) _ (scene after r.to (a0 ∷ t2)) (scene after r.to (c0 ∷ (a0 ∷ t2))) (scene after r.to full) (λ k. ap (λ (z : ℤ). Done (scene after r.to (z ∷ (a0 ∷ t2))) k) (r.stride_is ∙ stride_is))
-      (slots_pushed sh level (suc d) q line mark m behind_pushed after r.to (c0 ∷ (a0 ∷ t2)) (scene after r.to full) (slots_same sh level (suc d) mark f3 r.to r.slots_is ∙ slots_is)
+      leads_step q nw line (runtime (push_word (helper first (suc d)) none)) _ (scene after r.to t2) (scene after r.to (a0 ∷ t2)) (scene after r.to full) (λ k. ap (λ (z : ℤ). Done (scene after r.to (z ∷ t2)) k) (r.moved.first_is ∙ first_is))
+      (leads_step q nw line (runtime (push_word (helper stride (suc d)) none)) _ (scene after r.to (a0 ∷ t2)) (scene after r.to (c0 ∷ (a0 ∷ t2))) (scene after r.to full) (λ k. ap (λ (z : ℤ). Done (scene after r.to (z ∷ (a0 ∷ t2))) k) (r.moved.stride_is ∙ stride_is))
+      (slots_pushed sh level (suc d) q line mark m behind_pushed after r.to (c0 ∷ (a0 ∷ t2)) (scene after r.to full) (slots_same sh level (suc d) mark f3 r.to r.moved.slots_is ∙ slots_is)
       (leads_step q nw line (runtime (push_word (helper count (suc d)) none)) stop (scene after r.to slots_then) (scene after r.to full) (scene after r.to full) (λ k. ap (λ (z : ℤ). Done (scene after r.to (z ∷ slots_then)) k) counted)
       (leads_stop q nw (scene after r.to full))))) in
       let e : full ≡ (pos l ∷ (slots_trail mark m ++ (c0 ∷ (a0 ∷ (taken.trail ++ saved.trail))))) ++ t = ap (λ (z : List ℤ). pos l ∷ (slots_trail mark m ++ (c0 ∷ (a0 ∷ z)))) (sym (append_assoc taken.trail saved.trail t)) ∙ ap (λ (z : List ℤ). pos l ∷ z) (sym (append_assoc (slots_trail mark m) (c0 ∷ (a0 ∷ (taken.trail ++ saved.trail))) t)) in
-      let off3 : SameOff (joined (just (plain x)) wrote) f3 r.to = record { at = λ y j o. r.off.at y j o ∙ (set_off sh x one_cell wrote f3 (wrap a0)).at y j o } in
-      let off_all : SameOff (joined (just (plain x)) wrote) f r.to = record { at = λ y j o. r.off.at y j o ∙ (set_off sh x one_cell wrote f3 (wrap a0)).at y j o } in
+      let off3 : SameOff (joined (just (plain x)) wrote) f3 r.to = record { at = λ y j o. r.moved.off.at y j o ∙ (set_off sh x one_cell wrote f3 (wrap a0)).at y j o } in
+      let off_all : SameOff (joined (just (plain x)) wrote) f r.to = record { at = λ y j o. r.moved.off.at y j o ∙ (set_off sh x one_cell wrote f3 (wrap a0)).at y j o } in
       record {
         to = r.to;
         trail = pos l ∷ (slots_trail mark m ++ (c0 ∷ (a0 ∷ (taken.trail ++ saved.trail))));
@@ -155,10 +156,10 @@ module _ (q : Calls ℤ) (sh : Var → Shape) (level : ℕ) (cells : List Key) (
               (leads_append q nw (pushes p line snapshot) _ (scene b f3 t1) (scene b f3 t2) (scene after r.to full) (taken.pushed b t1)
               (leads_act q nw line turns_code _ (scene b f3 t2) (scene after r.to t2) (scene after r.to full) looped.runs tail)))))));
         };
-        same = subst (λ z. SameOn sh (w.needed (point_after i)) (U z) r.to) none_else (record { at = λ y j lt h. r.same.at y j lt (leaves q sh level cells d line p known x one_cell l m mark a0 c0 g given apart apart' name change loops U U' w i ea eb ec laws numbers.small s nexts (w.marks.kept (suc i)) (plain y) h) });
+        same = subst (λ z. SameOn sh (w.needed (point_after i)) (U z) r.to) none_else (record { at = λ y j lt h. r.moved.same.at y j lt (leaves x mark g given w i ea eb ec laws (w.marks.kept (suc i)) (plain y) h) });
         off = off_all;
-        shades = λ y j. r.shades y j;
-        depth = λ o n c lt le. r.depth.at o n c lt le ∙ rw (other_depth d (role_code o) 5 n le, other_depth d (role_code o) 12 n le, other_depth d (role_code o) 4 n le, other_depth d (role_code o) 3 n le) refl;
+        shades = λ y j. r.moved.shades y j;
+        depth = λ o n c lt le. r.moved.depth.at o n c lt le ∙ rw (other_depth d (role_code o) 5 n le, other_depth d (role_code o) 12 n le, other_depth d (role_code o) 4 n le, other_depth d (role_code o) 3 n le) refl;
         returns = λ b1 h held.
             let back_from = reversed_back q sh level cells d line p known x one_cell l m mark a0 c0 g given apart apart' name change loops U U' w i ea eb ec laws numbers.slot numbers.steps_fit numbers.snapshots_fit numbers.few numbers.small differ differ' has u force_is starts_off s x_free f3 r.to same3 off3 at b1 h t held in
             subst (λ (z : List ℤ). ReversedBack q sh level cells d x (joined (just (plain x)) wrote) (w.held (point_before i)) back b1 f h z t (changes change 0 l) (run_at at ∷ loops_of loops 0 l)) e

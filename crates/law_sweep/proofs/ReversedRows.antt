@@ -39,6 +39,21 @@ use Rattle.law_sweep.proofs.Reversing.{reversing}
 use Rattle.law_sweep.proofs.StepUnits.{Loose, popped_stands, stepping, SnapIn, StandingIn}
 use Rattle.def_sweep.specs.StepUnits.{step_units}
 
+-- what the step call reaches, before and after a reversed loop that comes from f to another store
+module _ (sh : Var → Shape) (x : List ℕ) (mark : Mark) (g : CalleeFacts) (given : List (List ℕ)) (apart : AreApart g.callee.dummies) (apart' : AreApart given) (U : ℕ → Store ℤ) (w : Facts) (i : ℕ) (ea eb ec : Term) (laws : ReversedLaws w i x ea eb ec mark g given) (u : Store ℤ) (starts : (y : List ℕ) (j : ℕ) → name_eq y x ≡ false → U 0 (plain y) j ≡ u (plain y) j)
+    (f to : Store ℤ) (same : SameOn sh (w.needed (point_before i)) u f) (off : SameOff (joined (just (plain x)) (writes_actual g.callee given)) f to) where
+  -- it was before the loop as in the program
+  pub stood : (e a : List ℕ) → IsActual g.callee.dummies given e a → In (plain e) (joined g.callee.members g.read) → name_eq a x ≡ false → (j : ℕ) → j < size_of (sh (plain a)) → f (plain a) j ≡ U 0 (plain a) j
+  stood e a b n o j lt = same.at a j lt (laws.needs_members e a b n o) ∙ sym (starts a j o)
+
+  -- and where the call doesn't write it, it is after the loop
+  pub left_standing : (e a : List ℕ) → IsActual g.callee.dummies given e a → In (plain e) (joined g.callee.members g.read) → g.callee.written (plain e) ≡ false → name_eq a x ≡ false → (j : ℕ) → j < size_of (sh (plain a)) → to (plain a) j ≡ U 0 (plain a) j
+  left_standing e a b n v o j lt =
+      let back : beside given g.callee.dummies a ≡ Some e = beside_back g.callee.dummies given apart apart' e a b in
+      let free : writes_actual g.callee given (plain a) ≡ false = rw (back, v) refl in
+      let kept_off : (name_eq a x || writes_actual g.callee given (plain a)) ≡ false = rw (o, free) refl in
+      off.at a j kept_off ∙ stood e a b n o j lt
+
 module _ (q : Calls ℤ) (sh : Var → Shape) (level : ℕ) (cells : List Key) (d line : ℕ) (p : Plan) (known : KnowsArrays p sh) (x : List ℕ) (one_cell : size_of (sh (plain x)) ≡ 1) (l m : ℕ) (mark : Mark) (a0 c0 : ℤ) (g : CalleeFacts) (given : List (List ℕ)) (apart : AreApart g.callee.dummies) (apart' : AreApart given) (name : List ℕ) (change : ℕ → Words → Words) (loops : ℕ → List LoopRun) (U U' : ℕ → Store ℤ)
     (w : Facts) (i : ℕ) (ea eb ec : Term) (laws : ReversedLaws w i x ea eb ec mark g given)
     (slot : 0 < m) (steps_fit : steps_of (pos l) ≡ Ok l) (snapshots_fit : snapshots_of (pos m) ≡ Ok m) (few : suc (suc (length (schedule_of 0 l m))) < 2 ^ 63) (small : suc l < 2 ^ 63) (differ : name_eq name g.callee.adjoint ≡ false) (differ' : name_eq g.callee.adjoint name ≡ false)
@@ -76,13 +91,6 @@ module _ (q : Calls ℤ) (sh : Var → Shape) (level : ℕ) (cells : List Key) (
   own_run at = record { mark = record { line = at; turns = l; snapshots = m }; step = step_units name g.callee g.read }
 
   module _ (x_free : wr (plain x) ≡ false) (f to : Store ℤ) (same : SameOn sh (w.needed (point_before i)) u f) (off : SameOff (joined (just (plain x)) wr) f to) where
-    free : (e a : List ℕ) → IsActual ds given e a → g.callee.written (plain e) ≡ false → wr (plain a) ≡ false
-    free e a b v = let back : beside given ds a ≡ Some e = beside_back ds given apart apart' e a b in rw (back, v) refl
-
-    -- what is called for was before the loop as in the program
-    stands : (e a : List ℕ) → IsActual ds given e a → In (plain e) reached → name_eq a x ≡ false → (j : ℕ) → j < size_of (sh (plain a)) → f (plain a) j ≡ U 0 (plain a) j
-    stands e a b n o j lt = same.at a j lt (laws.needs_members e a b n o) ∙ sym (starts a j o)
-
     pub reversed_back : (at : ℕ) (base : Course) (h : Store ℤ) (t : List ℤ) → SameOn sh (w.held (point_after i)) to h →
         let saved = group_pushed q sh level p line known saves f in
         let taken = group_pushed q sh level p line known snap f in
@@ -99,13 +107,10 @@ module _ (q : Calls ℤ) (sh : Var → Shape) (level : ℕ) (cells : List Key) (
         let k = taken.popped h3 in
         let h4 = k.after in
         let loose3 : Loose q sh level cells d line p known x one_cell l m mark a0 c0 g given apart apart' name change loops U U' h3 h3 = record {
-          at = λ e a b n v o j lt.
-              let z = free e a b v in
-              let kept_off : (name_eq a x || wr (plain a)) ≡ false = rw (o, z) refl in
-              held.at a j lt (laws.holds_reads e a b n v o) ∙ off.at a j kept_off ∙ stands e a b n o j lt;
+          at = λ e a b n v o j lt. held.at a j lt (laws.holds_reads e a b n v o) ∙ left_standing sh x mark g given apart apart' U w i ea eb ec laws u starts f to same off e a b n v o j lt;
           framed = record { off = record { at = λ y j o. refl }; depth = record { at = λ r n c lt le. refl } };
         } in
-        let stands4 = popped_stands q sh level cells d line p known x one_cell l m mark a0 c0 g given apart apart' name change loops U U' h3 s x_free 0 f h3 h4 (omega arith) stands loose3 k.restored in
+        let stands4 = popped_stands q sh level cells d line p known x one_cell l m mark a0 c0 g given apart apart' name change loops U U' h3 s x_free 0 f h3 h4 (omega arith) (stood sh x mark g given apart apart' U w i ea eb ec laws u starts f to same off) loose3 k.restored in
         let st = stepping q sh level cells d line p known x one_cell l m mark a0 c0 g given apart apart' name change loops U U' h3 s x_free in
         let r = reversing q sh level cells (suc d) line x l m mark a0 c0 (step_units name g.callee g.read) (words_of sh snap) (pushes p line snap) (pops p line snap) (one line (call name (actuals_named given))) (one line (adjoint_call g.callee given))
         (StandingIn q sh level cells d line p known x one_cell l m mark a0 c0 g given apart apart' name change loops U U' h3 s x_free)

@@ -1,12 +1,12 @@
 -- A reversal as a whole: what it does to the store and the tape, and what it tells.
-use Rattle.std.proofs.Common.{◌≡◌, ◌<◌, ◌≤◌, ◌^◌, ℕ, suc, true, false, List, ◌∷◌, length, refl, sym, ap, ◌∙◌, subst, arith}
-use Rattle.std.specs.Prelude.{ℤ, pos, nat_le, Ok}
+use Rattle.std.proofs.Common.{◌≡◌, ◌<◌, ◌≤◌, ◌^◌, ℕ, suc, false, List, ◌∷◌, length, refl, sym, ap, ◌∙◌, subst, arith}
+use Rattle.std.specs.Prelude.{ℤ, pos, Ok}
 use Rattle.adj_tree.specs.Code.{Var, plain, helper, first, stride, count, entry, entries, name_eq, var, Mark, unmarked, loop, runtime, begin_reversal, count_actions, end_reversal, Code, stop}
 use Rattle.adj_tree.proofs.Names.{nat_refl}
 use Rattle.adj_word.specs.Word.{wrap}
 use Rattle.adj_word.specs.Pairing.{pairing}
 use Rattle.adj_word.proofs.Residues.{wrap_word}
-use Rattle.adj_word.proofs.Counting.{word-count, trips_through}
+use Rattle.adj_word.proofs.Counting.{word-count}
 use Rattle.adj_revolve.specs.declared.machine.Action.{Action}
 use Rattle.adj_revolve.specs.Schedule.{schedule_of}
 use Rattle.adj_revolve.specs.Machine.{total_cost}
@@ -31,7 +31,8 @@ use Rattle.law_sweep.proofs.Slots.{slots_same}
 use Rattle.law_sweep.proofs.Goings.{loop_goes}
 use Rattle.law_sweep.specs.Steps.{changes, loops_of}
 use Rattle.law_sweep.proofs.Playing.{schedule_played}
-use Rattle.law_sweep.proofs.Acting.{Stepping, Ready, Beside, own_set, beside_then, action, acts}
+use Rattle.law_sweep.proofs.ActionStores.{Ready, begun_beside, trips_all}
+use Rattle.law_sweep.proofs.Acting.{Stepping, action, acts}
 
 module _ (q : Calls ℤ) (sh : Var → Shape) (level : ℕ) (cells : List Key) (d line : ℕ) (x : List ℕ) (l m : ℕ) (mark : Mark) (a0 c0 : ℤ) (step : StepUnits) (words : ℕ) (keep back plain_call adjoint : Code) (Standing : ℕ → Store ℤ → Type 0) (Loose : Store ℤ → Type 0) (Snap : ℕ → List ℤ → Type 0) (change : ℕ → Words → Words) (loops : ℕ → List LoopRun) where
   abbrev nw : Setting ℤ
@@ -75,11 +76,11 @@ module _ (q : Calls ℤ) (sh : Var → Shape) (level : ℕ) (cells : List Key) (
       let b1 : Course = record { opened = suc base.opened; events = Begin l m level (length t) ∷ base.events } in
       let a = acts q sh level cells d line x l m mark a0 c0 unit adj Kind words keep back plain_call adjoint Standing Loose Snap change loops steps_fit snapshots_fit few small differ differ' s in
       let p = schedule_played q sh level cells (action q sh level cells d line x l m mark a0 c0 unit adj Kind words keep back plain_call adjoint Standing Loose Snap change loops) (helper entry d) unit adj Kind words
-      (Ready q sh level cells d line x l m mark a0 c0 unit adj Kind words keep back plain_call adjoint Standing Loose Snap change loops) steps l Standing Loose Snap change loops a m slot refl b1 f2 t
-      (s.standing 0 f f2 (beside f) h) (s.loosen 0 f2)
+      (Ready sh level d l m mark a0 c0) steps l Standing Loose Snap change loops a m slot refl b1 f2 t
+      (s.standing 0 f f2 (begun_beside d x n f) h) (s.loosen 0 f2)
       (record { count_is = count_is; first_is = first_is; stride_is = stride_is; slots_is = slots_same sh level d mark f f2 refl ∙ slots_is; entry_is = rw (nat_refl d) one_word }) in
       let looped = loop_goes q nw line (helper entry d) (literal 1) (var (helper entries d)) (literal 1) (action q sh level cells d line x l m mark a0 c0 unit adj Kind words keep back plain_call adjoint Standing Loose Snap change loops) b1 f1 p.after t t (pos 1) (f1 (helper entries d) 0) (pos 1) n p.calls p.rs
-      refl refl refl (ap (λ z. trips unmarked (pos 1) z (pos 1)) (entries_is f) ∙ trips_all) p.runs in
+      refl refl refl (ap (λ z. trips unmarked (pos 1) z (pos 1)) (entries_is f) ∙ trips_all n few) p.runs in
       let b2 : Course = record { opened = base.opened; events = End level ∷ looped.later.events } in
       record {
         after = p.after;
@@ -104,13 +105,3 @@ module _ (q : Calls ℤ) (sh : Var → Shape) (level : ℕ) (cells : List Key) (
 
       entries_is : (f : Store ℤ) → set f (helper entries d) 0 (pos (length steps)) (helper entries d) 0 ≡ pos (length steps)
       entries_is f = rw (nat_refl d) refl
-
-      trips_all : trips unmarked (pos 1) (pos (length steps)) (pos 1) ≡ Ok (length steps)
-      trips_all = let ok : nat_le (length steps) 9223372036854775807 ≡ true = grind arith in rw (trips_through (length steps)) (rw ok refl)
-
-      beside : (f : Store ℤ) → Beside q sh level cells d line x l m mark a0 c0 unit adj Kind words keep back plain_call adjoint Standing Loose Snap change loops f (set (set f (helper entries d) 0 (pos (length steps))) (helper entry d) 0 (wrap (pos 1)))
-      beside f =
-          let f1 = set f (helper entries d) 0 (pos (length steps)) in
-          beside_then q sh level cells d line x l m mark a0 c0 unit adj Kind words keep back plain_call adjoint Standing Loose Snap change loops f f1 (set f1 (helper entry d) 0 (wrap (pos 1)))
-          (own_set q sh level cells d line x l m mark a0 c0 unit adj Kind words keep back plain_call adjoint Standing Loose Snap change loops entries (pos (length steps)) f)
-          (own_set q sh level cells d line x l m mark a0 c0 unit adj Kind words keep back plain_call adjoint Standing Loose Snap change loops entry (wrap (pos 1)) f1)

@@ -69,8 +69,45 @@ same_or_fewer f g w (u ∷ us) = go (f u.name) refl (g u.name) refl (same_or_few
     go false e false d (inl s) = inl (λ n h k. either (name_eq u.name n) (is_unit us n) (f n) h (λ r. none n d r k) (λ r. s n r k))
     go false e false d (inr l) = inr l
 
+-- only units that are there count
+pub calls_there : (f g : List ℕ → Bool) (s : ℕ → Bool) → (us : List Procedure) → ((n : List ℕ) → is_unit us n ≡ true → f n ≡ true → g n ≡ true) → (name : List ℕ) (i : ℕ) → calls_some f s name i us ≡ true → calls_some g s name i us ≡ true
+calls_there f g s [] w name i h = absurd cc
+calls_there f g s (u ∷ us) w name i h =
+    either (f u.name && calls_in s name i u.body) (calls_some f s name (behind i u.body) us) (calls_some g s name i (u ∷ us)) h
+    (λ e. let p = and_true (f u.name) (calls_in s name i u.body) e in or_left (g u.name && calls_in s name i u.body) (calls_some g s name (behind i u.body) us) (rw (w u.name (or_left (name_eq u.name u.name) (is_unit us u.name) (name_refl u.name)) p.0, p.1) refl))
+    (λ e. or_right (g u.name && calls_in s name i u.body) (calls_some g s name (behind i u.body) us) (calls_there f g s us (λ n r. w n (or_right (name_eq u.name n) (is_unit us n) r)) name (behind i u.body) e))
+
 -- ---- rounds
 
+-- the round after finds no more
+abbrev pub IsLast : List Procedure → (ℕ → List ℕ → Bool) → ℕ → Type 0
+IsLast ps after k = (n : List ℕ) → is_unit ps n ≡ true → after (suc k) n ≡ true → after k n ≡ true
+
+-- sets that grow, and stay the same once they did
+module _ (ps : List Procedure) (after : ℕ → List ℕ → Bool) (rises : (k : ℕ) (n : List ℕ) → after k n ≡ true → after (suc k) n ≡ true)
+    (still_last : (k : ℕ) → IsLast ps after k → IsLast ps after (suc k)) where
+  last_or_many : (k : ℕ) → IsLast ps after k ⊎ (suc k ≤ how_many (after (suc k)) ps)
+  last_or_many zero = go (same_or_fewer (after 0) (after 1) (rises 0) ps)
+    where
+      go : IsLast ps after 0 ⊎ (how_many (after 0) ps < how_many (after 1) ps) → IsLast ps after 0 ⊎ (1 ≤ how_many (after 1) ps)
+      go (inl e) = inl e
+      go (inr l) = inr (omega arith)
+  last_or_many (suc k) = go (last_or_many k) (same_or_fewer (after (suc k)) (after (suc (suc k))) (rises (suc k)) ps)
+    where
+      go : IsLast ps after k ⊎ (suc k ≤ how_many (after (suc k)) ps) → IsLast ps after (suc k) ⊎ (how_many (after (suc k)) ps < how_many (after (suc (suc k))) ps) → IsLast ps after (suc k) ⊎ (suc (suc k) ≤ how_many (after (suc (suc k))) ps)
+      go (inl e) b = inl (still_last k e)
+      go (inr a) (inl e) = inl e
+      go (inr a) (inr l) = inr (omega arith)
+
+  -- after as many rounds as there are units no more is found
+  pub rounds_last : IsLast ps after (length ps)
+  rounds_last = go (last_or_many (length ps))
+    where
+      go : IsLast ps after (length ps) ⊎ (suc (length ps) ≤ how_many (after (suc (length ps))) ps) → IsLast ps after (length ps)
+      go (inl e) = e
+      go (inr l) = absurd (omega (arith, many_most (after (suc (length ps))) ps))
+
+-- units that are reached by calls
 module _ (roots : List ℕ → Bool) (s : ℕ → Bool) (ps : List Procedure) where
   abbrev after : ℕ → List ℕ → Bool
   after k = reached_after roots s ps k
@@ -83,40 +120,12 @@ module _ (roots : List ℕ → Bool) (s : ℕ → Bool) (ps : List Procedure) wh
       (or_left (roots n) (calls_some (after (suc k)) s n 0 ps))
       (λ e. or_right (roots n) (calls_some (after (suc k)) s n 0 ps) (calls_rise (after k) (after (suc k)) (rises k) s n 0 ps e))
 
-  abbrev IsLast : ℕ → Type 0
-  IsLast k = (n : List ℕ) → is_unit ps n ≡ true → after (suc k) n ≡ true → after k n ≡ true
-
-  -- only units that are there count
-  calls_there : (f g : List ℕ → Bool) → (us : List Procedure) → ((n : List ℕ) → is_unit us n ≡ true → f n ≡ true → g n ≡ true) → (name : List ℕ) (i : ℕ) → calls_some f s name i us ≡ true → calls_some g s name i us ≡ true
-  calls_there f g [] w name i h = absurd cc
-  calls_there f g (u ∷ us) w name i h =
-      either (f u.name && calls_in s name i u.body) (calls_some f s name (behind i u.body) us) (calls_some g s name i (u ∷ us)) h
-      (λ e. let p = and_true (f u.name) (calls_in s name i u.body) e in or_left (g u.name && calls_in s name i u.body) (calls_some g s name (behind i u.body) us) (rw (w u.name (or_left (name_eq u.name u.name) (is_unit us u.name) (name_refl u.name)) p.0, p.1) refl))
-      (λ e. or_right (g u.name && calls_in s name i u.body) (calls_some g s name (behind i u.body) us) (calls_there f g us (λ n r. w n (or_right (name_eq u.name n) (is_unit us n) r)) name (behind i u.body) e))
-
-  still_last : (k : ℕ) → IsLast k → IsLast (suc k)
+  still_last : (k : ℕ) → IsLast ps after k → IsLast ps after (suc k)
   still_last k l n r h =
       either (roots n) (calls_some (after (suc k)) s n 0 ps) (after (suc k) n) h
       (or_left (roots n) (calls_some (after k) s n 0 ps))
-      (λ e. or_right (roots n) (calls_some (after k) s n 0 ps) (calls_there (after (suc k)) (after k) ps l n 0 e))
-
-  last_or_many : (k : ℕ) → IsLast k ⊎ (suc k ≤ how_many (after (suc k)) ps)
-  last_or_many zero = go (same_or_fewer (after 0) (after 1) (rises 0) ps)
-    where
-      go : IsLast 0 ⊎ (how_many (after 0) ps < how_many (after 1) ps) → IsLast 0 ⊎ (1 ≤ how_many (after 1) ps)
-      go (inl e) = inl e
-      go (inr l) = inr (omega arith)
-  last_or_many (suc k) = go (last_or_many k) (same_or_fewer (after (suc k)) (after (suc (suc k))) (rises (suc k)) ps)
-    where
-      go : IsLast k ⊎ (suc k ≤ how_many (after (suc k)) ps) → IsLast (suc k) ⊎ (how_many (after (suc k)) ps < how_many (after (suc (suc k))) ps) → IsLast (suc k) ⊎ (suc (suc k) ≤ how_many (after (suc (suc k))) ps)
-      go (inl e) b = inl (still_last k e)
-      go (inr a) (inl e) = inl e
-      go (inr a) (inr l) = inr (omega arith)
+      (λ e. or_right (roots n) (calls_some (after k) s n 0 ps) (calls_there (after (suc k)) (after k) s ps l n 0 e))
 
   -- after as many rounds as there are units no more is found
-  pub reached_last : IsLast (length ps)
-  reached_last = go (last_or_many (length ps))
-    where
-      go : IsLast (length ps) ⊎ (suc (length ps) ≤ how_many (after (suc (length ps))) ps) → IsLast (length ps)
-      go (inl e) = e
-      go (inr l) = absurd (omega (arith, many_most (after (suc (length ps))) ps))
+  pub reached_last : IsLast ps after (length ps)
+  reached_last = rounds_last ps after rises still_last

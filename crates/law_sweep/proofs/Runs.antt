@@ -1,11 +1,12 @@
 -- Runs of sweeps and of the program are put together.
-use Rattle.std.proofs.Common.{ℕ, List, [], ◌++◌, refl, ◌∙◌, subst}
+use Rattle.std.proofs.Common.{◌≡◌, ℕ, List, [], ◌++◌, refl, ◌∙◌, subst}
 use Rattle.std.specs.Prelude.{ℤ}
 use Rattle.std.proofs.lemmas.List.{append-nil}
 use Rattle.adj_tree.specs.Code.{Var, plain, Act, Code, stop, step}
 use Rattle.def_meaning.specs.Append.{◌+++◌, one}
 use Rattle.def_meaning.specs.Store.{Shape, Store}
 use Rattle.def_meaning.specs.Value.{Setting}
+use Rattle.def_meaning.specs.Scene.{Outcome, Done}
 use Rattle.def_meaning.specs.Run.{Calls}
 use Rattle.law_meaning.specs.Leads.{Leads}
 use Rattle.law_meaning.proofs.Leadings.{leads_stop, leads_append, leads_act}
@@ -15,6 +16,10 @@ use Rattle.law_sweep.specs.Scenes.{Course, scene}
 use Rattle.def_sweep.specs.Reversals.{Reversal, LoopRun, ReversedLines}
 use Rattle.law_sweep.specs.Runs.{Comes, ActComes, Passes, ActPasses, SameOn}
 use Rattle.law_sweep.proofs.Told.{tells_nothing, tells_then, marks_nothing, marks_then, tells_of_marks}
+
+-- one outcome has one number of statements left
+pub left_same : {B : Type 0} (b c : B) (j k : ℕ) → (let o : Outcome B = Done b j in o ≡ Done c k) → j ≡ k
+left_same b c j k h = cc
 
 module _ {C : Type 0} (q : Calls C) (n : Setting C) where
   pub comes_stop : (b : Course) (s : Store C) (t : List C) → Comes q n stop b s s t t []

@@ -23,7 +23,6 @@ use Rattle.law_sweep.specs.Steps.{ActualsAgree}
 use Rattle.law_sweep.proofs.Runs.{comes_append}
 use Rattle.law_sweep.proofs.Sweeps.{Returns, Way, Sweeps}
 use Rattle.law_sweep.proofs.Passing.{beside_back, beside_key, in_plain, in_shadow}
-use Rattle.law_sweep.proofs.CallAdjoints.{CellsMeet}
 use Rattle.law_sweep.proofs.CallDuals.{actuals_bound, shadows_bound}
 use Rattle.law_sweep.proofs.CallTangents.{shadows_out}
 use Rattle.law_sweep.proofs.Snapshots.{KnowsArrays}
@@ -32,7 +31,7 @@ use Rattle.def_sweep.specs.SplitRows.{left_of, back_call}
 use Rattle.def_sweep.specs.SplitMarks.{split_needed, split_held}
 use Rattle.law_sweep.specs.SplitCalled.{KeepsRead, BackCalled, ForthCalled}
 use Rattle.law_sweep.proofs.Left.{left_in, left_has}
-use Rattle.law_sweep.proofs.Handing.{UnitCalled, unit_called, entered, pairs_through}
+use Rattle.law_sweep.proofs.Handing.{UnitCalled, unit_called, entered, pairs_through, CellsMeet}
 use Rattle.law_sweep.proofs.Entered.{UnitEnters, Moved, Moves}
 
 module _ (qs : List Procedure) (depth : ℕ) (sh : Var → Shape) (level : ℕ) (xs ys : List Key) (apart_xs : IsApart key_eq xs) (apart_ys : IsApart key_eq ys) (g : CalleeFacts) (given : List (List ℕ)) (many : AsMany g.callee.dummies given) (apart : AreApart g.callee.dummies) (apart' : AreApart given) (meet : CellsMeet g.callee given xs ys)

@@ -7,7 +7,7 @@ use Rattle.def_meaning.specs.Store.{Shape, size_of, Store}
 use Rattle.def_meaning.specs.Run.{Calls}
 use Rattle.def_names.specs.Numbers.{Vars}
 use Rattle.def_names.specs.Numbering.{point_before, point_after}
-use Rattle.def_sweep.specs.Facts.{In, without, joined, Facts}
+use Rattle.def_sweep.specs.Facts.{In, joined, Facts}
 use Rattle.def_meaning.specs.Apart.{AreApart}
 use Rattle.law_sweep.specs.Pairs.{Key, Words, with_tangents, on_words, on_duals}
 use Rattle.law_sweep.specs.Scenes.{Course}
@@ -21,7 +21,7 @@ use Rattle.law_sweep.proofs.Sweeps.{Sweeps}
 use Rattle.law_sweep.proofs.Transposed.{Transposed}
 use Rattle.law_sweep.proofs.Passing.{beside_back}
 use Rattle.law_sweep.proofs.CallTangents.{tangents_out, shadows_out}
-use Rattle.law_sweep.proofs.CallSweeps.{CallTransposed}
+use Rattle.law_sweep.proofs.CallSweeps.{CallTransposed, without_none}
 use Rattle.law_sweep.proofs.CallStatements.{call_matches, call_unwritten}
 use Rattle.law_sweep.specs.Laws.{SplitLaws}
 use Rattle.def_sweep.specs.SplitRows.{split_forward, split_backward, back_call}
@@ -69,9 +69,6 @@ module _ (q : Calls ℤ) (lines : ReversedLines) (qd : Calls (ℤ × ℤ)) (sh :
 
   abbrev turned : Words → Words
   turned = shadows_out g.callee.shadowed ds given c.change
-
-  without_none : (a : Vars) (v : Var) → In v a → In v (without a nothing)
-  without_none a v h = rw h refl
 
   needs_later : (v : Var) → In v needed_after → In v needed
   needs_later v h = laws.call.values.needs v (without_none needed_after v h)

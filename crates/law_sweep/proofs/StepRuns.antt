@@ -12,6 +12,7 @@ use Rattle.def_meaning.specs.Run.{turns, trips}
 use Rattle.def_meaning.specs.Runtime.{steps_of, snapshots_of}
 use Rattle.def_sweep.specs.MarkedUnits.{is_marked}
 use Rattle.law_meaning.proofs.Inversions.{then_done, count_done, done_same}
+use Rattle.law_sweep.proofs.Runs.{left_same}
 
 -- ---- numbers
 
@@ -68,8 +69,8 @@ abbrev pub first_then : {A : Type 0} → A → (ℕ → A) → ℕ → A
 first_then a f zero = a
 first_then a f (suc i) = f i
 
--- m turns that are done, by the scenes before and after each
-pub record StepsRun {C : Type 0} (n : Setting C) (m : ℕ) (go : Go C) (after : Scene C → Scene C) (s e : Scene C) : Type 0 where
+-- m turns that are done, by the scenes before and after each, and the statements that were left there
+pub record StepsRun {C : Type 0} (n : Setting C) (m : ℕ) (go : Go C) (after : Scene C → Scene C) (s e : Scene C) (k k' : ℕ) : Type 0 where
   pub before : ℕ → Scene C
   pub behind : ℕ → Scene C
   pub given : ℕ → ℕ
@@ -78,8 +79,11 @@ pub record StepsRun {C : Type 0} (n : Setting C) (m : ℕ) (go : Go C) (after : 
   pub done : (i : ℕ) → i < m → go (before i) (given i) ≡ Done (behind i) (left i)
   pub next : (i : ℕ) → i < m → before (suc i) ≡ after (behind i)
   pub ends : before m ≡ e
+  -- each turn takes a statement before its body
+  pub counted : (i : ℕ) → i < m → first_then k left i ≡ suc (given i)
+  pub counted_all : first_then k left m ≡ k'
 
-pub steps_run : {C : Type 0} (n : Setting C) (m : ℕ) (go : Go C) (after : Scene C → Scene C) (s e : Scene C) (k k' : ℕ) → turns n m go after s k ≡ Done e k' → StepsRun n m go after s e
+pub steps_run : {C : Type 0} (n : Setting C) (m : ℕ) (go : Go C) (after : Scene C → Scene C) (s e : Scene C) (k k' : ℕ) → turns n m go after s k ≡ Done e k' → StepsRun n m go after s e k k'
 steps_run n zero go after s e k k' h = record {
   before = λ i. s;
   behind = λ i. s;
@@ -89,6 +93,8 @@ steps_run n zero go after s e k k' h = record {
   done = λ i less. absurd (omega arith);
   next = λ i less. absurd (omega arith);
   ends = done_same s e k k' h;
+  counted = λ i less. absurd (omega arith);
+  counted_all = left_same s e k k' h;
 }
 steps_run n (suc m) go after s e k k' h =
     let r = count_done (stand n s) k (λ j. then_do (go s j) (λ s1 i. turns n m go after (after s1) i)) e k' h in
@@ -103,6 +109,8 @@ steps_run n (suc m) go after s e k k' h =
       done = λ i less. each i less s o.scene r.left o.left rest.before rest.behind rest.given rest.left o.first rest.done;
       next = λ i less. between i less s o.scene rest.before rest.behind rest.starts rest.next;
       ends = rest.ends;
+      counted = λ i less. counts i less k r.left o.left rest.given rest.left r.is rest.counted;
+      counted_all = all_counted m k o.left rest.left rest.counted_all;
     }
   where
     each : (i : ℕ) → i < suc m → (a b : Scene _) (x y : ℕ) (f g : ℕ → Scene _) (p q : ℕ → ℕ) → go a x ≡ Done b y → ((i : ℕ) → i < m → go (f i) (p i) ≡ Done (g i) (q i)) → go (first_then a f i) (first_then x p i) ≡ Done (first_then b g i) (first_then y q i)
@@ -112,6 +120,13 @@ steps_run n (suc m) go after s e k k' h =
     between : (i : ℕ) → i < suc m → (a b : Scene _) (f g : ℕ → Scene _) → f 0 ≡ after b → ((i : ℕ) → i < m → f (suc i) ≡ after (g i)) → first_then a f (suc i) ≡ after (first_then b g i)
     between zero less a b f g first rest = first
     between (suc i) less a b f g first rest = rest i (omega arith)
+
+    counts : (i : ℕ) → i < suc m → (a x y : ℕ) (p q : ℕ → ℕ) → a ≡ suc x → ((i : ℕ) → i < m → first_then y q i ≡ suc (p i)) → first_then a (first_then y q) i ≡ suc (first_then x p i)
+    counts zero less a x y p q first rest = first
+    counts (suc i) less a x y p q first rest = rest i (omega arith)
+
+    all_counted : (n a y : ℕ) (q : ℕ → ℕ) → first_then y q n ≡ k' → first_then a (first_then y q) (suc n) ≡ k'
+    all_counted n a y q h = h
 
 -- ---- something chosen for each step
 

@@ -35,7 +35,7 @@ use Rattle.law_sweep.proofs.CallDuals.{actuals_bound, dual_in}
 use Rattle.law_sweep.proofs.CallTangents.{tangents_in}
 use Rattle.law_sweep.proofs.Entering.{actuals_at, entry_pulled}
 use Rattle.law_sweep.proofs.Declared.{fits_alike, shapes}
-use Rattle.law_sweep.proofs.Units.{fit_of, fit_size}
+use Rattle.law_sweep.proofs.CallFacts.{fit_of, fit_size}
 use Rattle.law_tangent.specs.Forward.{takes_some}
 use Rattle.law_tangent.specs.Bears.{NoTapes, Bears, SceneBears}
 use Rattle.law_tangent.specs.Laws.{CalleeFlow, CallFlows}

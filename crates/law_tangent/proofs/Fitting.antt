@@ -1,7 +1,7 @@
 -- A source that fits, with what flows through it, is as the theorem on units asks; and so is the program that is emitted for it.
 use Rattle.std.proofs.Common.{◌≡◌, ℕ, ◌*◌, Bool, true, false, List, [], ◌∷◌, refl, sym, ap, ◌∙◌, subst, arith, if◌then◌else◌}
-use Rattle.std.specs.Prelude.{◌==◌, not, length, Option, Some, None, IsTrue}
-use Rattle.adj_tree.specs.Code.{plain, name_eq, Extent, Procedure}
+use Rattle.std.specs.Prelude.{length, Option, Some, None, IsTrue}
+use Rattle.adj_tree.specs.Code.{plain, name_eq, Procedure}
 use Rattle.adj_tree.proofs.Names.{name_same}
 use Rattle.def_meaning.specs.Append.{◌+++◌}
 use Rattle.def_meaning.specs.Written.{find_unit, handed_back}
@@ -20,6 +20,7 @@ use Rattle.law_sweep.specs.Source.{is_unit, SourceFits, variables_of, arrays_in}
 use Rattle.law_sweep.proofs.UnitLists.{found_there}
 use Rattle.law_sweep.proofs.EmittedUnits.{counts, some_there, inside_in}
 use Rattle.law_sweep.proofs.Rounds.{calls_rise}
+use Rattle.law_sweep.proofs.Declared.{no_extents}
 use Rattle.law_tangent.specs.Forward.{tangents}
 use Rattle.law_tangent.specs.Laws.{CalleeFlow, ListTexts}
 use Rattle.law_tangent.specs.Units.{CallTexts, HasTangent, goes, plan_of, UnitFits, PlainFits}
@@ -44,11 +45,6 @@ dummies_are (u ∷ us) name = go (name_eq u.name name) (dummies_are us name)
     go : (b : Bool) → dummies_of us name ≡ dummies_in (find_unit us name) → (if b then u.dummies else dummies_of us name) ≡ dummies_in (if b then Some u else find_unit us name)
     go true ih = refl
     go false ih = ih
-
--- what isn't an array has no extents
-no_extents : (l : List Extent) → not (length l == 0) ≡ false → l ≡ []
-no_extents [] h = refl
-no_extents (e ∷ l) h = absurd (let x : length l ≡ length l = refl in grind arith)
 
 -- the laws of the sweeps know the same dummies
 pub adjoint_dummies : (ps : List Procedure) (n : List ℕ) (o : Option Procedure) → (Rattle.def_sweep.specs.Marking.callee_of full_marks ps n o).dummies ≡ dummies_in o

@@ -44,6 +44,7 @@ use Rattle.law_sweep.proofs.Rows.{rows, AreSized, others_nought, tangents_rows, 
 use Rattle.law_sweep.proofs.UnitRuns.{unit_setting, output_from, begin}
 use Rattle.law_sweep.proofs.Entry as entry
 use Rattle.law_sweep.proofs.MadeUnits as units_made
+use Rattle.law_sweep.proofs.Runs.{left_same}
 use Rattle.law_tangent.specs.Forward.{tangents}
 use Rattle.law_tangent.specs.Bears.{SceneBears}
 use Rattle.law_tangent.specs.Theorem.{ShapesOf, HeadBears}
@@ -72,10 +73,6 @@ trapped_before (Full v) f n t line w h = absurd cc
 same_at : {B : Type 0} (f g : Runs B) (k : ℕ) → Verdict f g k → (IsMore (f k) → ⊥) → g k ≡ f k
 same_at f g k (goes_on m) h = absurd (h (m k (omega arith)))
 same_at f g k (settled s) h = ap g s.is ∙ s.later s.rest ∙ sym (s.same s.rest) ∙ ap f (sym s.is)
-
--- one outcome has one number of statements left
-left_same : {A : Type 0} (x y : A) (j k : ℕ) → (let o : Outcome A = Done x j in o ≡ Done y k) → j ≡ k
-left_same x y j k h = cc
 
 module _ (m : ℕ) (on : Carried) (varied : ℕ → Vars) (ps : List Procedure) (u : Procedure) (vars : List Bool) (good : TangentFits m on varied ps u vars) (input z : List (Slot ℤ)) (d : List (List ℤ)) (fit : fits words u input ≡ true) (alike : AreAlike input z) (dir : IsDirection vars input d) (are : AreAllWords d) (handed : AreHandedIn vars d z) where
   abbrev carried : Vars

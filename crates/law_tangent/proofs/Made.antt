@@ -12,7 +12,7 @@ use Rattle.def_names.specs.Numbers.{Vars}
 use Rattle.def_sweep.specs.Declared.{helpers_from}
 use Rattle.law_sweep.proofs.Naming.{AreMadeInside}
 use Rattle.def_sweep.specs.Marking.{arrays_of}
-use Rattle.law_sweep.proofs.Made.{made-append, helpers-inside}
+use Rattle.law_sweep.proofs.MadeParts.{made-append, helpers-inside}
 use Rattle.law_sweep.proofs.MadeUnits.{has_unit}
 use Rattle.law_tangent.specs.Forward.{Callee, tangents}
 use Rattle.law_tangent.specs.Units.{as_shadowed, HasTangent}

@@ -1,116 +1,27 @@
 -- The expressions in a tangent are at most 4 deeper than those of what it is of.
-use Rattle.std.proofs.Common.{◌≡◌, ℕ, zero, suc, ◌+◌, ◌≤◌, max, Bool, true, false, List, [], ◌∷◌, ◌++◌, map, refl, sym, subst, arith, if◌then◌else◌}
+use Rattle.std.proofs.Common.{ℕ, zero, suc, ◌+◌, ◌≤◌, Bool, true, false, List, [], ◌∷◌, ◌++◌, map, sym, subst, arith, if◌then◌else◌}
 use Rattle.std.specs.Prelude.{pos, ◌||◌}
-use Rattle.adj_tree.specs.Code.{Var, plain, shadow, helper, plus, minus, times, quot, modulo, greater, lesser, Term, lit, var, elem, neg, bin, pow, power_of, abs, Terms, none, more, Test, compare, negation, conjunction, disjunction, Runtime, push_word, pop_word, push_array, pop_array, push_control, pop_control, zero_array, begin_reversal, count_actions, give_action, end_reversal, Act, assign, choose, loop, during, call, runtime, Code, stop, step, name_eq, Procedure}
-use Rattle.adj_tree.specs.Size.{term_depth, terms_depth, test_depth}
+use Rattle.adj_tree.specs.Code.{plain, shadow, helper, plus, minus, times, quot, modulo, greater, lesser, Term, lit, var, elem, neg, bin, pow, power_of, abs, Terms, none, zero_array, Act, assign, choose, loop, during, call, runtime, Code, stop, step, name_eq, Procedure}
+use Rattle.adj_tree.specs.Size.{term_depth, terms_depth}
 use Rattle.def_meaning.specs.Append.{◌+++◌, one}
-use Rattle.def_meaning.specs.Rename.{rename_term, rename_terms, rename_test, rename_runtime, rename_act, rename}
 use Rattle.def_names.specs.Numbers.{Vars}
-use Rattle.def_sweep.specs.Marked.{code_if, count_of, own_code, own_or, names_in}
+use Rattle.def_sweep.specs.Marked.{code_if, count_of, names_in}
 use Rattle.def_sweep.specs.Naming.{naming}
 use Rattle.def_sweep.specs.Declared.{unit_name, unmarked, unit_at}
-use Rattle.def_sweep.specs.AdjointOf.{is_active_where, has_own_where, temps_in_where, shrunk_where, temps_where}
+use Rattle.def_sweep.specs.AdjointOf.{is_active_where, has_own_where, temps_in_where, temps_where}
 use Rattle.def_sweep.specs.Plan.{names_of}
 use Rattle.law_sweep.specs.Passing.{Bindings, bindings, actuals_in}
 use Rattle.def_sweep.specs.Marking.{arrays_of}
-use Rattle.law_emitted.specs.Emitted.{runtime_deepest, act_deepest, deepest, AreShallow}
+use Rattle.law_emitted.specs.Emitted.{act_deepest, deepest, AreShallow}
+use Rattle.law_emitted.proofs.Depths.{deep_append, deep_own, some_depth, deep_temps, renamed_list}
 use Rattle.law_tangent.specs.TangentOf.{parts_in_where, tangent_term, sum_of, difference_of, own_part, parts_where, before_assignment}
 use Rattle.law_tangent.specs.Forward.{Plan, takes_some, before_act, tangent_act, tangents}
 use Rattle.law_tangent.specs.Program.{Carried, plan_in, cleared, has_tangent, stays, made_names, names_of_unit, tangent_unit, emitted_units, emitted_for}
 use Rattle.law_tangent_carried.specs.Emitted.{KeepsDepth}
 
--- ---- lists
-
--- two lists, one after the other; and a list that may be left out
-deep_append : (n : ℕ) (c d : Code) → deepest c ≤ n → deepest d ≤ n → deepest (c +++ d) ≤ n
-deep_append n stop d h g = g
-deep_append n (step line a c) d h g = let rest = deep_append n c d (omega arith) g in omega arith
-
-deep_if : (n : ℕ) (b : Bool) (c : Code) → deepest c ≤ n → deepest (code_if b c) ≤ n
-deep_if n true c h = h
-deep_if n false c h = omega arith
-
 -- ---- assignments
 
--- an operand by its temporary or by itself, and the assignment of the temporary
-deep_own : (n : ℕ) (t : Bool) (j : ℕ) (e : Term) → 1 ≤ n → term_depth e ≤ n → term_depth (own_or t j e) ≤ n
-deep_own n true j e l h = l
-deep_own n false j e l h = h
-
-deep_own_code : (n : ℕ) (t : Bool) (line j : ℕ) (e : Term) → term_depth e ≤ n → deepest (own_code t line j e) ≤ n
-deep_own_code n true line j e h = omega arith
-deep_own_code n false line j e h = omega arith
-
--- a term has a depth
-some_depth : (e : Term) → 1 ≤ term_depth e
-some_depth (lit z) = omega arith
-some_depth (var x) = omega arith
-some_depth (elem x s) = omega arith
-some_depth (neg a) = omega arith
-some_depth (bin op a b) = omega arith
-some_depth (pow a k) = omega arith
-some_depth (power_of a b) = omega arith
-some_depth (abs a) = omega arith
-
 module _ (on : Vars) where
-  deep_shrunk : (n : ℕ) (e : Term) (j : ℕ) → term_depth e ≤ n → term_depth (shrunk_where on e j) ≤ n
-  deep_shrunk n (lit z) j h = h
-  deep_shrunk n (var x) j h = h
-  deep_shrunk n (elem x subs) j h = h
-  deep_shrunk zero (neg a) j h = absurd (omega arith)
-  deep_shrunk (suc n) (neg a) j h = let l = deep_shrunk n a j (omega arith) in omega arith
-  deep_shrunk zero (bin plus a b) j h = absurd (omega arith)
-  deep_shrunk (suc n) (bin plus a b) j h = let l = deep_shrunk n a j (omega arith) in let r = deep_shrunk n b (j + temps_in_where on a) (omega arith) in omega arith
-  deep_shrunk zero (bin minus a b) j h = absurd (omega arith)
-  deep_shrunk (suc n) (bin minus a b) j h = let l = deep_shrunk n a j (omega arith) in let r = deep_shrunk n b (j + temps_in_where on a) (omega arith) in omega arith
-  deep_shrunk zero (bin times a b) j h = absurd (omega arith)
-  deep_shrunk (suc n) (bin times a b) j h =
-      let some = some_depth a in
-      let k = j + temps_in_where on a + count_of (has_own_where on a b) in
-      let l = deep_own n (has_own_where on a b) (j + temps_in_where on a) (shrunk_where on a j) (omega arith) (deep_shrunk n a j (omega arith)) in
-      let r = deep_own n (has_own_where on b a) (j + temps_in_where on a + count_of (has_own_where on a b) + temps_in_where on b) (shrunk_where on b k) (omega arith) (deep_shrunk n b k (omega arith)) in
-      omega arith
-  deep_shrunk n (bin quot a b) j h = h
-  deep_shrunk n (bin modulo a b) j h = h
-  deep_shrunk n (bin greater a b) j h = h
-  deep_shrunk n (bin lesser a b) j h = h
-  deep_shrunk n (pow a zero) j h = h
-  deep_shrunk zero (pow a (suc zero)) j h = absurd (omega arith)
-  deep_shrunk (suc n) (pow a (suc zero)) j h = let l = deep_shrunk n a j (omega arith) in omega arith
-  deep_shrunk zero (pow a (suc (suc k))) j h = absurd (omega arith)
-  deep_shrunk (suc n) (pow a (suc (suc k))) j h = let some = some_depth a in let l = deep_own n (has_own_where on a a) (j + temps_in_where on a) (shrunk_where on a j) (omega arith) (deep_shrunk n a j (omega arith)) in omega arith
-  deep_shrunk zero (power_of a b) j h = absurd (omega arith)
-  deep_shrunk (suc n) (power_of a b) j h =
-      let some = some_depth a in
-      let l = deep_own n (has_own_where on a a) (j + temps_in_where on a) (shrunk_where on a j) (omega arith) (deep_shrunk n a j (omega arith)) in
-      let r = deep_own n (has_own_where on b a) (j + temps_in_where on a + count_of (has_own_where on a a)) b (omega arith) (omega arith) in
-      omega arith
-  deep_shrunk n (abs a) j h = h
-
-  deep_temps : (n : ℕ) (e : Term) (j line : ℕ) → term_depth e ≤ n → deepest (temps_where on e j line) ≤ n
-  deep_temps n (lit z) j line h = omega arith
-  deep_temps n (var x) j line h = omega arith
-  deep_temps n (elem x subs) j line h = omega arith
-  deep_temps n (neg a) j line h = deep_temps n a j line (omega arith)
-  deep_temps n (bin plus a b) j line h = deep_append n (temps_where on a j line) _ (deep_temps n a j line (omega arith)) (deep_temps n b (j + temps_in_where on a) line (omega arith))
-  deep_temps n (bin minus a b) j line h = deep_append n (temps_where on a j line) _ (deep_temps n a j line (omega arith)) (deep_temps n b (j + temps_in_where on a) line (omega arith))
-  deep_temps n (bin times a b) j line h =
-      let k = j + temps_in_where on a + count_of (has_own_where on a b) in
-      deep_append n (temps_where on a j line) _ (deep_temps n a j line (omega arith))
-      (deep_append n (own_code (has_own_where on a b) line (j + temps_in_where on a) (shrunk_where on a j)) _ (deep_own_code n (has_own_where on a b) line (j + temps_in_where on a) (shrunk_where on a j) (deep_shrunk n a j (omega arith)))
-      (deep_append n (temps_where on b (j + temps_in_where on a + count_of (has_own_where on a b)) line) _ (deep_temps n b (j + temps_in_where on a + count_of (has_own_where on a b)) line (omega arith)) (deep_own_code n (has_own_where on b a) line (k + temps_in_where on b) (shrunk_where on b k) (deep_shrunk n b k (omega arith)))))
-  deep_temps n (bin quot a b) j line h = omega arith
-  deep_temps n (bin modulo a b) j line h = omega arith
-  deep_temps n (bin greater a b) j line h = omega arith
-  deep_temps n (bin lesser a b) j line h = omega arith
-  deep_temps n (pow a zero) j line h = omega arith
-  deep_temps n (pow a (suc zero)) j line h = deep_temps n a j line (omega arith)
-  deep_temps n (pow a (suc (suc k))) j line h = deep_append n (temps_where on a j line) _ (deep_temps n a j line (omega arith)) (deep_own_code n (has_own_where on a a) line (j + temps_in_where on a) (shrunk_where on a j) (deep_shrunk n a j (omega arith)))
-  deep_temps n (power_of a b) j line h =
-      deep_append n (temps_where on a j line) _ (deep_temps n a j line (omega arith))
-      (deep_append n (own_code (has_own_where on a a) line (j + temps_in_where on a) (shrunk_where on a j)) _ (deep_own_code n (has_own_where on a a) line (j + temps_in_where on a) (shrunk_where on a j) (deep_shrunk n a j (omega arith))) (deep_own_code n (has_own_where on b a) line (j + temps_in_where on a + count_of (has_own_where on a a)) b (omega arith)))
-  deep_temps n (abs a) j line h = omega arith
-
   -- the tangent of a term is no deeper
   deep_tangent : (n : ℕ) (e : Term) (k : ℕ) → term_depth e ≤ n → term_depth (tangent_term on e k) ≤ n
   deep_tangent n (lit z) k h = h
@@ -296,56 +207,6 @@ cleared_deep n arrays line (x ∷ xs) = go (arrays (plain x)) (cleared_deep n ar
     go : (b : Bool) → deepest (cleared arrays line xs) ≤ n + 4 → deepest ((if b then one line (runtime (zero_array (shadow x))) else one line (assign (shadow x) none (lit (pos 0)))) +++ cleared arrays line xs) ≤ n + 4
     go true ih = omega (arith, ih)
     go false ih = omega (arith, ih)
-
--- ---- renaming keeps it
-
-module _ (r : Var → Var) where
-  mutual
-    renamed_term : (e : Term) → term_depth (rename_term r e) ≡ term_depth e
-    renamed_term (lit z) = refl
-    renamed_term (var x) = refl
-    renamed_term (elem x s) = λ i. renamed_terms s i + 1
-    renamed_term (neg a) = λ i. renamed_term a i + 1
-    renamed_term (bin op a b) = λ i. max (renamed_term a i) (renamed_term b i) + 1
-    renamed_term (pow a k) = λ i. renamed_term a i + 1
-    renamed_term (power_of a b) = λ i. max (renamed_term a i) (renamed_term b i) + 1
-    renamed_term (abs a) = λ i. renamed_term a i + 1
-
-    renamed_terms : (es : Terms) → terms_depth (rename_terms r es) ≡ terms_depth es
-    renamed_terms none = refl
-    renamed_terms (more e es) = λ i. max (renamed_term e i) (renamed_terms es i)
-
-  renamed_test : (c : Test) → test_depth (rename_test r c) ≡ test_depth c
-  renamed_test (compare o a b) = λ i. max (renamed_term a i) (renamed_term b i) + 1
-  renamed_test (negation c) = λ i. renamed_test c i + 1
-  renamed_test (conjunction c d) = λ i. max (renamed_test c i) (renamed_test d i) + 1
-  renamed_test (disjunction c d) = λ i. max (renamed_test c i) (renamed_test d i) + 1
-
-  renamed_runtime : (c : Runtime) → runtime_deepest (rename_runtime r c) ≡ runtime_deepest c
-  renamed_runtime (push_word x s) = renamed_terms s
-  renamed_runtime (pop_word x s) = renamed_terms s
-  renamed_runtime (push_array x) = refl
-  renamed_runtime (pop_array x) = refl
-  renamed_runtime (push_control e) = renamed_term e
-  renamed_runtime (pop_control x) = refl
-  renamed_runtime (zero_array x) = refl
-  renamed_runtime (begin_reversal l s) = λ i. max (renamed_term l i) (renamed_term s i)
-  renamed_runtime (count_actions l s x) = λ i. max (renamed_term l i) (renamed_term s i)
-  renamed_runtime (give_action l s k a b c) = λ i. max (renamed_term l i) (max (renamed_term s i) (renamed_term k i))
-  renamed_runtime end_reversal = refl
-
-  mutual
-    renamed_act : (a : Act) → act_deepest (rename_act r a) ≡ act_deepest a
-    renamed_act (assign x s e) = λ i. max (renamed_terms s i) (renamed_term e i)
-    renamed_act (choose c a b) = λ i. max (renamed_test c i) (max (renamed_list a i) (renamed_list b i))
-    renamed_act (loop x a b c body m) = λ i. max (renamed_term a i) (max (renamed_term b i) (max (renamed_term c i) (renamed_list body i)))
-    renamed_act (during c body) = λ i. max (renamed_test c i) (renamed_list body i)
-    renamed_act (call name args) = renamed_terms args
-    renamed_act (runtime c) = renamed_runtime c
-
-    renamed_list : (c : Code) → deepest (rename r c) ≡ deepest c
-    renamed_list stop = refl
-    renamed_list (step line a rest) = λ i. max (renamed_act a i) (renamed_list rest i)
 
 -- ---- the emitted program
 

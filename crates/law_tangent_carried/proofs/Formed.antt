@@ -2,13 +2,13 @@
 use Rattle.std.proofs.Common.{◌≡◌, ℕ, zero, suc, ◌+◌, ◌<◌, ◌≤◌, ◌^◌, Bool, true, false, List, refl, arith, if◌then◌else◌}
 use Rattle.std.specs.Prelude.{pos, ◌||◌, Option, Some}
 use Rattle.adj_tree.specs.Code.{Var, plain, shadow, helper, work, temp, plus, minus, times, quot, modulo, greater, lesser, Term, lit, var, elem, neg, bin, pow, power_of, abs, Terms, none, more, assign}
-use Rattle.def_text.specs.Written.{is_literal}
 use Rattle.def_meaning.specs.Append.{◌+++◌, one}
 use Rattle.def_names.specs.Standing as standing
 use Rattle.def_names.specs.Numbers.{Vars}
-use Rattle.def_sweep.specs.Marked.{code_if, count_of, own_or, own_code}
-use Rattle.def_sweep.specs.AdjointOf.{is_active_where, has_own_where, temps_in_where, shrunk_where, temps_where}
+use Rattle.def_sweep.specs.Marked.{code_if, count_of, own_or}
+use Rattle.def_sweep.specs.AdjointOf.{is_active_where, has_own_where, temps_in_where, temps_where}
 use Rattle.law_emitted.proofs.Over.{OverTerm, OverPlace, OverCode, over_append}
+use Rattle.law_emitted.proofs.Terms.{own_or_over, temps_over}
 use Rattle.law_tangent.specs.TangentOf.{parts_in_where, tangent_term, sum_of, difference_of, own_part, parts_where, before_assignment}
 
 -- what is true counts as one
@@ -16,91 +16,8 @@ one_of : (b : Bool) → b ≡ true → count_of b ≡ 1
 one_of true e = refl
 one_of false e = absurd cc
 
--- a variable isn't a literal
-none_literal : (x : Var) → is_literal (var x) ≡ false
-none_literal x = refl
-
 module _ (on : Vars) (Q : Var → Option ℕ → Type 0) (A : Var → Type 0) (C : List ℕ → Terms → Type 0) (works temps : ℕ) (work_stands : (k : ℕ) → 1 ≤ k → k ≤ works → Q (helper work k) (Some 0)) (temp_stands : (j : ℕ) → 1 ≤ j → j ≤ temps → Q (helper temp j) (Some 0))
     (shadow_stands : (x : List ℕ) (n : ℕ) → on (plain x) ≡ true → Q (plain x) (Some n) → Q (shadow x) (Some n)) where
-  -- ---- operands
-
-  own_or_over : (t : Bool) (j : ℕ) (e : Term) → 1 ≤ j → j + count_of t ≤ suc temps → OverTerm Q A e → OverTerm Q A (own_or t j e)
-  own_or_over true j e low high w = temp_stands j low (omega arith)
-  own_or_over false j e low high w = w
-
-  -- an exponent stays none that is literal
-  own_or_literal : (t : Bool) (j : ℕ) (e : Term) → is_literal e ≡ false → is_literal (own_or t j e) ≡ false
-  own_or_literal true j e h = refl
-  own_or_literal false j e h = h
-
-  shrunk_over : (e : Term) (j : ℕ) → OverTerm Q A e → 1 ≤ j → j + temps_in_where on e ≤ suc temps → OverTerm Q A (shrunk_where on e j)
-  shrunk_over (lit z) j w low high = w
-  shrunk_over (var x) j w low high = w
-  shrunk_over (elem x subs) j w low high = w
-  shrunk_over (neg a) j w low high = shrunk_over a j w low high
-  shrunk_over (bin plus a b) j w low high = (shrunk_over a j w.0 low (omega arith), shrunk_over b (j + temps_in_where on a) w.1 (omega arith) (omega arith))
-  shrunk_over (bin minus a b) j w low high = (shrunk_over a j w.0 low (omega arith), shrunk_over b (j + temps_in_where on a) w.1 (omega arith) (omega arith))
-  shrunk_over (bin times a b) j w low high =
-      let m = j + temps_in_where on a + count_of (has_own_where on a b) in (
-        own_or_over (has_own_where on a b) (j + temps_in_where on a) (shrunk_where on a j) (omega arith) (omega arith) (shrunk_over a j w.0 low (omega arith)),
-        own_or_over (has_own_where on b a) (m + temps_in_where on b) (shrunk_where on b m) (omega arith) (omega arith) (shrunk_over b m w.1 (omega arith) (omega arith)),
-      )
-  shrunk_over (bin quot a b) j w low high = w
-  shrunk_over (bin modulo a b) j w low high = w
-  shrunk_over (bin greater a b) j w low high = w
-  shrunk_over (bin lesser a b) j w low high = w
-  shrunk_over (pow a zero) j w low high = w
-  shrunk_over (pow a (suc zero)) j w low high = (shrunk_over a j w.0 low high, w.1)
-  shrunk_over (pow a (suc (suc k))) j w low high =
-      (own_or_over (has_own_where on a a) (j + temps_in_where on a) (shrunk_where on a j) (omega arith) (omega arith) (shrunk_over a j w.0 low (omega arith)), w.1)
-  shrunk_over (power_of a b) j w low high =
-      let m = j + temps_in_where on a + count_of (has_own_where on a a) in (
-        own_or_over (has_own_where on a a) (j + temps_in_where on a) (shrunk_where on a j) (omega arith) (omega arith) (shrunk_over a j w.0 low (omega arith)),
-        (own_or_over (has_own_where on b a) m b (omega arith) (omega arith) w.1.0, own_or_literal (has_own_where on b a) m b w.1.1),
-      )
-  shrunk_over (abs a) j w low high = w
-
-  -- ---- temporaries
-
-  own_over : (t : Bool) (line j : ℕ) (e : Term) → 1 ≤ j → j + count_of t ≤ suc temps → OverTerm Q A e → OverCode Q A C (own_code t line j e)
-  own_over true line j e low high w = ((temp_stands j low (omega arith), w), tt)
-  own_over false line j e low high w = tt
-
-  temps_over : (e : Term) (j line : ℕ) → OverTerm Q A e → 1 ≤ j → j + temps_in_where on e ≤ suc temps → OverCode Q A C (temps_where on e j line)
-  temps_over (lit z) j line w low high = tt
-  temps_over (var x) j line w low high = tt
-  temps_over (elem x subs) j line w low high = tt
-  temps_over (neg a) j line w low high = temps_over a j line w low high
-  temps_over (bin plus a b) j line w low high =
-      over_append Q A C (temps_where on a j line) (temps_where on b (j + temps_in_where on a) line) (temps_over a j line w.0 low (omega arith)) (temps_over b (j + temps_in_where on a) line w.1 (omega arith) (omega arith))
-  temps_over (bin minus a b) j line w low high =
-      over_append Q A C (temps_where on a j line) (temps_where on b (j + temps_in_where on a) line) (temps_over a j line w.0 low (omega arith)) (temps_over b (j + temps_in_where on a) line w.1 (omega arith) (omega arith))
-  temps_over (bin times a b) j line w low high =
-      let m = j + temps_in_where on a + count_of (has_own_where on a b) in
-      let first = own_code (has_own_where on a b) line (j + temps_in_where on a) (shrunk_where on a j) in
-      let second = own_code (has_own_where on b a) line (m + temps_in_where on b) (shrunk_where on b m) in
-      over_append Q A C (temps_where on a j line) (first +++ (temps_where on b m line +++ second)) (temps_over a j line w.0 low (omega arith))
-      (over_append Q A C first (temps_where on b m line +++ second) (own_over (has_own_where on a b) line (j + temps_in_where on a) (shrunk_where on a j) (omega arith) (omega arith) (shrunk_over a j w.0 low (omega arith)))
-      (over_append Q A C (temps_where on b m line) second (temps_over b m line w.1 (omega arith) (omega arith))
-      (own_over (has_own_where on b a) line (m + temps_in_where on b) (shrunk_where on b m) (omega arith) (omega arith) (shrunk_over b m w.1 (omega arith) (omega arith)))))
-  temps_over (bin quot a b) j line w low high = tt
-  temps_over (bin modulo a b) j line w low high = tt
-  temps_over (bin greater a b) j line w low high = tt
-  temps_over (bin lesser a b) j line w low high = tt
-  temps_over (pow a zero) j line w low high = tt
-  temps_over (pow a (suc zero)) j line w low high = temps_over a j line w.0 low high
-  temps_over (pow a (suc (suc k))) j line w low high =
-      over_append Q A C (temps_where on a j line) (own_code (has_own_where on a a) line (j + temps_in_where on a) (shrunk_where on a j)) (temps_over a j line w.0 low (omega arith))
-      (own_over (has_own_where on a a) line (j + temps_in_where on a) (shrunk_where on a j) (omega arith) (omega arith) (shrunk_over a j w.0 low (omega arith)))
-  temps_over (power_of a b) j line w low high =
-      let m = j + temps_in_where on a + count_of (has_own_where on a a) in
-      let first = own_code (has_own_where on a a) line (j + temps_in_where on a) (shrunk_where on a j) in
-      let second = own_code (has_own_where on b a) line m b in
-      over_append Q A C (temps_where on a j line) (first +++ second) (temps_over a j line w.0 low (omega arith))
-      (over_append Q A C first second (own_over (has_own_where on a a) line (j + temps_in_where on a) (shrunk_where on a j) (omega arith) (omega arith) (shrunk_over a j w.0 low (omega arith)))
-      (own_over (has_own_where on b a) line m b (omega arith) (omega arith) w.1.0))
-  temps_over (abs a) j line w low high = tt
-
   -- ---- tangents of terms
 
   zero_over : OverTerm Q A (lit (pos 0))
@@ -171,8 +88,8 @@ module _ (on : Vars) (Q : Var → Option ℕ → Type 0) (A : Var → Type 0) (C
       (over_append Q A C (parts_where on b m i line) _ (parts_over b (k + parts_in_where on a) (j + temps_in_where on a + count_of (has_own_where on a b)) line w.1 (omega arith) (omega arith) (omega arith) (omega arith))
       (part_over (is_active_where on a || is_active_where on b) line (k + parts_in_where on a + parts_in_where on b) _ (omega arith) (omega arith)
       (λ t. sum_over (is_active_where on a) (is_active_where on b) (bin times (tangent_term on a k) (own_or (has_own_where on b a) (i + temps_in_where on b) b)) (bin times (own_or (has_own_where on a b) (j + temps_in_where on a) a) (tangent_term on b m)) t
-      (λ e. (tangent_over a k w.0 e low (omega arith), own_or_over (has_own_where on b a) (j + temps_in_where on a + count_of (has_own_where on a b) + temps_in_where on b) b (omega arith) (omega arith) w.1))
-      (λ e. (own_or_over (has_own_where on a b) (j + temps_in_where on a) a (omega arith) (omega arith) w.0, tangent_over b (k + parts_in_where on a) w.1 e (omega arith) (omega arith))))))
+      (λ e. (tangent_over a k w.0 e low (omega arith), own_or_over on Q A C temps temp_stands (has_own_where on b a) (j + temps_in_where on a + count_of (has_own_where on a b) + temps_in_where on b) b (omega arith) (omega arith) w.1))
+      (λ e. (own_or_over on Q A C temps temp_stands (has_own_where on a b) (j + temps_in_where on a) a (omega arith) (omega arith) w.0, tangent_over b (k + parts_in_where on a) w.1 e (omega arith) (omega arith))))))
   parts_over (bin quot a b) k j line w low high first last = tt
   parts_over (bin modulo a b) k j line w low high first last = tt
   parts_over (bin greater a b) k j line w low high first last = tt
@@ -187,10 +104,10 @@ module _ (on : Vars) (Q : Var → Option ℕ → Type 0) (A : Var → Type 0) (C
       let less : suc n ≤ 63 = omega (arith, small) in
       over_append Q A C (parts_where on a k j line) _ (parts_over a k j line w.0 low (omega arith) first (omega arith))
       (part_over (is_active_where on a) line (k + parts_in_where on a) _ (omega arith) (omega arith)
-      (λ t. ((word, (own_or_over (has_own_where on a a) (j + temps_in_where on a) a (omega arith) (omega arith) w.0, less)), tangent_over a k w.0 t low (omega arith))))
+      (λ t. ((word, (own_or_over on Q A C temps temp_stands (has_own_where on a a) (j + temps_in_where on a) a (omega arith) (omega arith) w.0, less)), tangent_over a k w.0 t low (omega arith))))
   parts_over (power_of a b) k j line w low high first last =
-      let base = own_or_over (has_own_where on a a) (j + temps_in_where on a) a (omega arith) (omega arith) w.0 in
-      let exponent = own_or_over (has_own_where on b a) (j + temps_in_where on a + count_of (has_own_where on a a)) b (omega arith) (omega arith) w.1.0 in
+      let base = own_or_over on Q A C temps temp_stands (has_own_where on a a) (j + temps_in_where on a) a (omega arith) (omega arith) w.0 in
+      let exponent = own_or_over on Q A C temps temp_stands (has_own_where on b a) (j + temps_in_where on a + count_of (has_own_where on a a)) b (omega arith) (omega arith) w.1.0 in
       let one_word : 1 < 2 ^ 63 = omega arith in
       let zero_word : 0 < 2 ^ 63 = omega arith in
       over_append Q A C (parts_where on a k j line) _ (parts_over a k j line w.0 low (omega arith) first (omega arith))
@@ -207,6 +124,6 @@ module _ (on : Vars) (Q : Var → Option ℕ → Type 0) (A : Var → Type 0) (C
       go true act =
           let enough = all act in
           over_append Q A C (temps_where on e 1 line +++ parts_where on e 1 1 line) (one line (assign (shadow t) subs (tangent_term on e 1)))
-          (over_append Q A C (temps_where on e 1 line) (parts_where on e 1 1 line) (temps_over e 1 line w (omega arith) (omega (arith, enough))) (parts_over e 1 1 line w (omega arith) (omega (arith, most)) (omega arith) (omega (arith, enough))))
+          (over_append Q A C (temps_where on e 1 line) (parts_where on e 1 1 line) (temps_over on Q A C temps temp_stands e 1 line w (omega arith) (omega (arith, enough))) (parts_over e 1 1 line w (omega arith) (omega (arith, most)) (omega arith) (omega (arith, enough))))
           ((here, tangent_over e 1 w act (omega arith) (omega (arith, most))), tt)
       go false act = ((here, zero_over), tt)

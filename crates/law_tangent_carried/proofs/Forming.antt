@@ -1,7 +1,7 @@
 -- The tangent of a list is formed as written code is, where the tangents of carried variables stand, and the helpers that it uses.
 use Rattle.std.proofs.Common.{◌≡◌, ℕ, ◌<◌, ◌≤◌, ◌^◌, Bool, true, false, List, [], ◌∷◌, refl, arith, if◌then◌else◌}
 use Rattle.std.specs.Prelude.{pos, ◌&&◌, Option, Some, None}
-use Rattle.adj_tree.specs.Code.{Var, plain, shadow, helper, work, temp, lit, var, elem, neg, bin, pow, power_of, abs, Terms, none, more, Act, assign, choose, loop, during, call, runtime, zero_array, Code, stop, step}
+use Rattle.adj_tree.specs.Code.{Var, plain, shadow, helper, work, temp, lit, Terms, none, Act, assign, choose, loop, during, call, runtime, zero_array, Code, stop, step}
 use Rattle.def_text.specs.Written.{IsName}
 use Rattle.def_meaning.specs.Append.{◌+++◌, one}
 use Rattle.def_names.specs.Standing as standing
@@ -13,7 +13,7 @@ use Rattle.def_sweep.specs.Plan.{names_of}
 use Rattle.law_sweep.specs.Passing.{bindings, actuals_in}
 use Rattle.law_emitted.proofs.Lists.{Each}
 use Rattle.law_emitted.specs.Shadowed.{AreCarried}
-use Rattle.law_emitted.proofs.Over.{OverActuals, OverCode, OverAct, over_append, place_other}
+use Rattle.law_emitted.proofs.Over.{OverActuals, OverCode, OverAct, over_append, place_other, names_stand}
 use Rattle.law_tangent.specs.TangentOf.{parts_in_where, before_assignment}
 use Rattle.law_tangent.specs.Forward.{Plan, takes_some, before_act, tangent_act, tangents}
 use Rattle.law_tangent.specs.Program.{parts_act, parts_used, temps_act, temps_used, cleared}
@@ -34,21 +34,6 @@ abbrev mutual
   pub Takes : (List ℕ → Terms → Type 0) → Plan → Code → Type 0
   Takes C p stop = Unit {0}
   Takes C p (step line a rest) = TakesAct C p a × Takes C p rest
-
-module _ (Q : Var → Option ℕ → Type 0) (A : Var → Type 0) where
-  -- names among actuals stand whole
-  names_stand : (args : Terms) → OverActuals Q A args → Each (λ a. Q (plain a) None) (names_of args)
-  names_stand none o = tt
-  names_stand (more (var (plain a)) es) o = (o.0, names_stand es o.1)
-  names_stand (more (var (shadow a)) es) o = names_stand es o.1
-  names_stand (more (var (helper r k)) es) o = names_stand es o.1
-  names_stand (more (lit z) es) o = names_stand es o.1
-  names_stand (more (elem x s) es) o = names_stand es o.1
-  names_stand (more (neg a) es) o = names_stand es o.1
-  names_stand (more (bin op a b) es) o = names_stand es o.1
-  names_stand (more (pow a k) es) o = names_stand es o.1
-  names_stand (more (power_of a b) es) o = names_stand es o.1
-  names_stand (more (abs a) es) o = names_stand es o.1
 
 module _ (Q : Var → Option ℕ → Type 0) (A : Var → Type 0) (C : List ℕ → Terms → Type 0) (p : Plan) (works temps : ℕ) (work_stands : (k : ℕ) → 1 ≤ k → k ≤ works → Q (helper work k) (Some 0)) (temp_stands : (j : ℕ) → 1 ≤ j → j ≤ temps → Q (helper temp j) (Some 0))
     (shadow_stands : (x : List ℕ) (n : ℕ) → p.carried (plain x) ≡ true → Q (plain x) (Some n) → Q (shadow x) (Some n)) (whole_stands : (x : List ℕ) → p.carried (plain x) ≡ true → Q (plain x) None → Q (shadow x) None) where

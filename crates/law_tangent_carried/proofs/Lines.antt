@@ -1,33 +1,20 @@
 -- A tangent stays one where its lines bear other numbers.
 use Rattle.std.proofs.Common.{◌≡◌, ℕ, ◌+◌, ◌*◌, ◌≤◌, List, [], refl, sym, ap, ◌∙◌, subst, arith}
-use Rattle.std.specs.Prelude.{ℤ, Bool, Option, Some, None}
+use Rattle.std.specs.Prelude.{ℤ, Bool, None}
 use Rattle.adj_tree.specs.Code.{Procedure}
 use Rattle.adj_tree.specs.Lines.{unlined_procedure, unlined}
 use Rattle.def_meaning.specs.Numbers.{words}
 use Rattle.def_meaning.specs.Scene.{IsMore, Outcome, Done, Trapped, More, Full}
-use Rattle.def_meaning.specs.Written.{find_unit}
 use Rattle.def_meaning.specs.Units.{Slot, Output, run_unit}
 use Rattle.law_meaning.specs.Unlined.{unlined_stand, unlined_output, unlined_ending}
 use Rattle.law_meaning.proofs.Costs.{one_end}
-use Rattle.law_meaning.proofs.UnlinedUnits.{unlined_found, find_unlined}
 use Rattle.law_meaning.proofs.Unlined.{runs_alike}
 use Rattle.def_kernel.specs.Stepped.{kernel_of}
 use Rattle.law_tangent.specs.Program.{tangent_name}
 use Rattle.law_tangent.specs.IsTangent.{TangentDone, TangentTraps}
 use Rattle.law_tangent_carried.specs.Lines.{OtherLines, AcceptedReads}
 use Rattle.law_tangent_carried.proofs.Through.{accepted_is_tangent}
-
--- what a run that is done gives, and used
-abbrev output_in : {C : Type 0} → Outcome (Output C) → Output C
-output_in (Done output used) = output
-output_in _ = record { slots = []; tape = []; events = [] }
-
--- where there is more to do there is more to do up to line numbers
-unlined_more : {C : Type 0} (o : Outcome (Output C)) → IsMore o → IsMore (unlined_ending o)
-unlined_more (Done out k) h = absurd h
-unlined_more (Trapped t line w) h = absurd h
-unlined_more (More w) h = tt
-unlined_more (Full w) h = absurd h
+use Rattle.law_sweep.proofs.Lines.{unlined_more, ends_alike, there}
 
 module _ (qs others : List Procedure) (same : unlined qs ≡ unlined others) (a b : Procedure) (like : unlined_procedure a ≡ unlined_procedure b) (input : List (Slot ℤ)) where
   abbrev run_of : ℕ → Outcome (Output ℤ)
@@ -37,32 +24,18 @@ module _ (qs others : List Procedure) (same : unlined qs ≡ unlined others) (a 
   alike k = runs_alike qs others same a b like words input [] None k
 
   done_there : (w used dummies : ℕ) (flags : List Bool) (out : Output (ℤ × ℤ)) → TangentDone w flags qs a input out used dummies → TangentDone w flags others b input out used dummies
-  done_there w used dummies flags out e = go (run_of e.enough) refl
-    where
-      done : (k : ℕ) → e.enough ≤ k → unlined_ending (run_of k) ≡ Done (unlined_output e.output) e.spent
-      done k le = sym (alike k) ∙ ap unlined_ending (e.runs k le)
-
-      no_more : (k : ℕ) → e.enough ≤ k → IsMore (run_of k) → ⊥
-      no_more k le m = subst IsMore (done k le) (unlined_more (run_of k) m)
-
-      go : (o : Outcome (Output ℤ)) → run_of e.enough ≡ o → TangentDone w flags others b input out used dummies
-      go (Done got k) is =
-          let z : Done (unlined_output got) k ≡ Done (unlined_output e.output) e.spent = ap unlined_ending (sym is) ∙ done e.enough (omega arith) in
-          let spent_is : e.spent ≡ k = cc in
-          let output_is : unlined_output got ≡ unlined_output e.output = ap output_in z in
-          record {
-            enough = e.enough;
-            output = got;
-            spent = k;
-            runs = λ m le. one_end words others b input [] None m e.enough (no_more m le) (no_more e.enough (omega arith)) ∙ is;
-            slots = ap (λ (x : Output ℤ). x.slots) output_is ∙ e.slots;
-            others = e.others;
-            tape = ap (λ (x : Output ℤ). x.tape) output_is ∙ e.tape;
-            cost = subst (λ n. n ≤ w * used + dummies) spent_is e.cost;
-          }
-      go (Trapped t line x) is = absurd (let z : Trapped t 0 (unlined_stand x) ≡ Done (unlined_output e.output) e.spent = ap unlined_ending (sym is) ∙ done e.enough (omega arith) in cc)
-      go (More x) is = absurd (no_more e.enough (omega arith) (subst IsMore (sym is) tt))
-      go (Full x) is = absurd (let z : Full (unlined_stand x) ≡ Done (unlined_output e.output) e.spent = ap unlined_ending (sym is) ∙ done e.enough (omega arith) in cc)
+  done_there w used dummies flags out e =
+      let r = ends_alike words qs others a b input same like (record { enough = e.enough; output = e.output; used = e.spent; runs = e.runs }) in
+      record {
+        enough = r.ends.enough;
+        output = r.ends.output;
+        spent = r.ends.used;
+        runs = r.ends.runs;
+        slots = ap (λ (x : Output ℤ). x.slots) r.same ∙ e.slots;
+        others = e.others;
+        tape = ap (λ (x : Output ℤ). x.tape) r.same ∙ e.tape;
+        cost = subst (λ n. n ≤ w * used + dummies) (sym r.spent) e.cost;
+      }
 
   traps_there : (line : ℕ) → TangentTraps qs a input line → (at : ℕ) × TangentTraps others b input at
   traps_there line e = go (run_of e.enough) refl
@@ -79,26 +52,10 @@ module _ (qs others : List Procedure) (same : unlined qs ≡ unlined others) (a 
       go (More x) is = absurd (no_more e.enough (omega arith) (subst IsMore (sym is) tt))
       go (Full x) is = absurd (let z : Full (unlined_stand x) ≡ Trapped e.kind 0 (unlined_stand e.stands) = ap unlined_ending (sym is) ∙ trapped e.enough (omega arith) in cc)
 
--- the same unit up to line numbers is there
-record IsThere (others : List Procedure) (name : List ℕ) (a : Procedure) : Type 0 where
-  pub unit : Procedure
-  pub is : find_unit others name ≡ Some unit
-  pub like : unlined_procedure a ≡ unlined_procedure unit
-
-abbrev found_or : Procedure → Option Procedure → Procedure
-found_or u None = u
-found_or u (Some v) = v
-
--- so a unit that is found among the others is that unit up to line numbers
-there : (others : List Procedure) (name : List ℕ) (a : Procedure) (o : Option Procedure) → find_unit others name ≡ o → Some (unlined_procedure a) ≡ unlined_found o → IsThere others name a
-there others name a None is e = absurd cc
-there others name a (Some b) is e = record { unit = b; is = is; like = ap (found_or (unlined_procedure a)) e }
-
 -- the laws
 pub other_lines : OtherLines
 other_lines w on ps name vars qs others same h =
-    let called = tangent_name (kernel_of ps) name in
-    let t = there others called h.tangent (find_unit others called) refl (ap unlined_found (sym h.is_there) ∙ sym (find_unlined qs called) ∙ ap (λ z. find_unit z called) same ∙ find_unlined others called) in
+    let t = there qs others same (tangent_name (kernel_of ps) name) h.tangent h.is_there in
     record {
       unit = h.unit;
       is_head = h.is_head;

@@ -1,10 +1,9 @@
 -- A tangent is nested no deeper than what it is of.
-use Rattle.std.proofs.Common.{◌≡◌, ℕ, ◌+◌, ◌≤◌, max, Bool, true, false, List, [], ◌∷◌, ◌++◌, map, refl, sym, subst, arith, if◌then◌else◌}
+use Rattle.std.proofs.Common.{ℕ, ◌+◌, ◌≤◌, Bool, true, false, List, [], ◌∷◌, ◌++◌, map, sym, subst, arith, if◌then◌else◌}
 use Rattle.std.specs.Prelude.{pos}
-use Rattle.adj_tree.specs.Code.{Var, plain, shadow, helper, lit, none, Act, assign, choose, loop, during, call, runtime, zero_array, Code, stop, step, name_eq, Procedure}
+use Rattle.adj_tree.specs.Code.{plain, shadow, helper, lit, none, Act, assign, choose, loop, during, call, runtime, zero_array, Code, stop, step, name_eq, Procedure}
 use Rattle.adj_tree.specs.Size.{act_depth, code_depth, IsNested}
 use Rattle.def_meaning.specs.Append.{◌+++◌, one}
-use Rattle.def_meaning.specs.Rename.{rename_act, rename}
 use Rattle.def_names.specs.Numbers.{Vars}
 use Rattle.def_sweep.specs.Marked.{code_if, names_in}
 use Rattle.def_sweep.specs.Naming.{naming}
@@ -18,11 +17,7 @@ use Rattle.law_tangent.specs.Program.{Carried, plan_in, cleared, has_tangent, st
 use Rattle.law_tangent.proofs.Straight.{AreAside}
 use Rattle.law_tangent.proofs.Asides.{aside_before}
 use Rattle.law_tangent_carried.specs.Emitted.{KeepsNesting}
-
--- two lists, one after the other
-below_append : (n : ℕ) (c d : Code) → code_depth c ≤ n → code_depth d ≤ n → code_depth (c +++ d) ≤ n
-below_append n stop d h g = g
-below_append n (step line a c) d h g = let rest = below_append n c d (omega arith) g in omega arith
+use Rattle.law_emitted.proofs.Nesting.{below_append, renamed_depth}
 
 -- what stands beside the text has no bodies
 aside_flat : (n line : ℕ) (c : Code) → AreAside line c → code_depth c ≤ n
@@ -33,19 +28,6 @@ aside_flat n line (step l (loop x a b c body m) rest) h = absurd h.1.0
 aside_flat n line (step l (during c body) rest) h = absurd h.1.0
 aside_flat n line (step l (call name args) rest) h = absurd h.1.0
 aside_flat n line (step l (runtime r) rest) h = absurd h.1.0
-
-mutual
-  renamed_act : (r : Var → Var) (a : Act) → act_depth (rename_act r a) ≡ act_depth a
-  renamed_act r (assign x s e) = refl
-  renamed_act r (choose c a b) = λ i. max (renamed_depth r a i) (renamed_depth r b i) + 1
-  renamed_act r (loop x a b c body m) = λ i. renamed_depth r body i + 1
-  renamed_act r (during c body) = λ i. renamed_depth r body i + 1
-  renamed_act r (call name args) = refl
-  renamed_act r (runtime c) = refl
-
-  renamed_depth : (r : Var → Var) (c : Code) → code_depth (rename r c) ≡ code_depth c
-  renamed_depth r stop = refl
-  renamed_depth r (step line a rest) = λ i. max (renamed_act r a i) (renamed_depth r rest i)
 
 module _ (p : Plan) where
   before_flat : (n line : ℕ) (a : Act) → code_depth (before_act p line a) ≤ n

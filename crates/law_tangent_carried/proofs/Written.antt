@@ -1,9 +1,9 @@
 -- What is emitted for a checked program is written.
-use Rattle.std.proofs.Common.{◌≡◌, ℕ, zero, suc, ◌≤◌, ◌⊎◌, inl, inr, Bool, true, false, List, [], ◌∷◌, ◌++◌, All, map, refl, sym, ap, ◌∙◌, subst, arith, codes, length, if◌then◌else◌}
-use Rattle.std.specs.Prelude.{◌||◌, ◌==◌, Option, Some, None}
-use Rattle.std.proofs.lemmas.List.Elements.{All-nil, All-cons, All-append}
-use Rattle.adj_tree.specs.Code.{Var, plain, shadow, helper, work, temp, name_eq, Act, assign, choose, loop, during, call, runtime, Code, stop, step, Declaration, Procedure}
-use Rattle.def_text.specs.Written.{IsName, IsWrittenExtent, IsWrittenDeclaration, IsWrittenProcedure, IsWritten}
+use Rattle.std.proofs.Common.{◌≡◌, ℕ, zero, suc, ◌≤◌, ◌⊎◌, inl, inr, Bool, true, false, List, [], ◌∷◌, ◌++◌, map, refl, sym, ap, ◌∙◌, subst, arith, codes, if◌then◌else◌}
+use Rattle.std.specs.Prelude.{Option, Some, None}
+use Rattle.std.proofs.lemmas.List.Elements.{All-nil, All-cons}
+use Rattle.adj_tree.specs.Code.{Var, plain, shadow, helper, work, temp, name_eq, Act, assign, choose, loop, during, call, runtime, Code, stop, step, Procedure}
+use Rattle.def_text.specs.Written.{IsName, IsWrittenProcedure, IsWritten}
 use Rattle.def_meaning.specs.Append.{◌+++◌}
 use Rattle.def_meaning.specs.Written.{find_unit}
 use Rattle.def_names.specs.Fault.{Rules}
@@ -11,17 +11,14 @@ use Rattle.def_names.specs.Statements.{inner, statements}
 use Rattle.def_names.specs.Variables.{variables}
 use Rattle.def_kernel.specs.Form.{IsKernelCode}
 use Rattle.def_meaning.specs.Apart.{has_name, AreApart}
-use Rattle.def_names.specs.Fresh.{fresh, candidate, digits, first_free}
-use Rattle.def_sweep.specs.Naming.{Named, name_in, naming}
+use Rattle.def_sweep.specs.Naming.{tangent_text, Named}
 use Rattle.def_sweep.specs.Facts.{In}
 use Rattle.adj_tree.proofs.Names.{name_refl}
 use Rattle.def_names.specs.Numbers.{Vars, next, behind}
 use Rattle.def_names.specs.Numbering.{point_before, point_after}
 use Rattle.def_sweep.specs.Marked.{names_in}
-use Rattle.def_sweep.specs.MarkedProgram.{shadows_behind, declared_behind}
-use Rattle.def_sweep.specs.Declared.{scalar, declaration, declared_helpers, helpers_from, unit_name, unmarked, unit_at}
+use Rattle.def_sweep.specs.Declared.{helpers_from, unit_name, unmarked, unit_at}
 use Rattle.def_names.proofs.Variables.{or_left, or_right, has_apart}
-use Rattle.law_kernel.proofs.FreshWritten.{name-append, fresh-name}
 use Rattle.def_sweep.specs.Plan.{beside, IsActual, names_of}
 use Rattle.law_sweep.specs.Laws.{point_inside}
 use Rattle.law_sweep.proofs.CallSweeps.{names_are}
@@ -29,25 +26,20 @@ use Rattle.law_sweep.proofs.Passing.{beside_key}
 use Rattle.def_sweep.specs.Names.{source_names, named_after}
 use Rattle.def_sweep.specs.Marking.{arrays_of, entry_point, first_statement}
 use Rattle.law_sweep.specs.Source.{is_unit}
-use Rattle.law_sweep.proofs.Rounds.{either}
 use Rattle.law_sweep.proofs.UnitLists.{found_there}
 use Rattle.law_sweep.proofs.HeadNames.{unmarked_in}
 use Rattle.law_sweep.proofs.Variables.{dummy_among}
 use Rattle.law_emitted.specs.Checked.{IsChecked}
 use Rattle.law_emitted.proofs.Lists.{Each, each_front, each_behind, each_more}
-use Rattle.law_emitted.proofs.Texts.{Known}
 use Rattle.law_emitted.proofs.Statements.{CallHasNone, call_of_unit}
-use Rattle.law_emitted.proofs.CheckedUnits.{names_known}
 use Rattle.law_emitted.proofs.Callings.{Found}
 use Rattle.law_emitted.proofs.Premises.{found}
 use Rattle.law_emitted.specs.Shadowed.{AreCarried}
 use Rattle.law_emitted.proofs.Over.{OverCode, Any, over_append}
-use Rattle.law_emitted.proofs.Renamed.{written_code}
-use Rattle.law_emitted.proofs.Source.{source_code}
-use Rattle.law_emitted.proofs.Sources.{each_name, of_each, UnitSound, all_named, all_sound}
-use Rattle.law_emitted.proofs.Tables.{IsFree, AreHelpers, has_var, among, among-append, helpers_append, from_helpers, has_from}
-use Rattle.law_emitted.proofs.Units.{each_marked, each_var}
-use Rattle.law_emitted.proofs.MadeNames.{underscored, IsMadeName, made_no_runtime}
+use Rattle.law_emitted.proofs.Sources.{each_name, UnitSound, all_named, all_sound}
+use Rattle.law_emitted.proofs.Tables.{IsFree, AreHelpers, has_var, among, among-append, helpers_append, from_helpers, has_from, has_plain_for, plain_known_for, has_shadow_for, has_helper_for}
+use Rattle.law_emitted.proofs.Units.{each_marked, source_formed, made_written}
+use Rattle.law_emitted.proofs.MadeNames.{IsMadeName, made_no_runtime, made_named}
 use Rattle.def_flow.specs.Problem.{Problem}
 use Rattle.law_tangent.specs.Forward.{tangents}
 use Rattle.law_tangent.specs.Laws.{ActFlows, ListFlows}
@@ -56,30 +48,7 @@ use Rattle.law_tangent_carried.specs.Carried.{IsCarrying, carried_by}
 use Rattle.law_tangent_carried.specs.Emitted.{TangentIsWritten}
 use Rattle.law_tangent_carried.proofs.Fits.{unit_flows, apart}
 use Rattle.law_tangent.specs.Program.{Carried, tangent_name, dummies_of, plan_in, parts_used, temps_used, helpers_used, cleared, names_of_unit, has_tangent, stays, made_names, tangent_unit, emitted_units, emitted_for}
-use Rattle.law_tangent_carried.proofs.Tables.{named_free, named_indexed, has_plain, plain_known, has_shadow, has_helper}
 use Rattle.law_tangent_carried.proofs.Forming.{TakesAct, Takes, list_over, cleared_over}
-
--- what holds of each member holds of all
-all_each : {X : Type 0} (P : X → Type 0) (xs : List X) → Each P xs → All P xs
-all_each P [] h = All-nil P
-all_each P (x ∷ xs) h = All-cons P x xs h.0 (all_each P xs h.1)
-
--- ---- declarations
-
--- declarations are written: of a scalar, of a variable of the unit, and under another name
-scalar_written : (line : ℕ) (x : List ℕ) → IsName x → IsWrittenDeclaration (scalar line x)
-scalar_written line x h = record { named = h; few_extents = omega arith; extents = All-nil IsWrittenExtent }
-
-declaration_written : (line : ℕ) (ds : List Declaration) (x : List ℕ) → IsName x → All IsWrittenDeclaration ds → IsWrittenDeclaration (declaration line ds x)
-declaration_written line [] x h a = scalar_written line x h
-declaration_written line (d ∷ ds) x h a = go (name_eq d.name x) (declaration_written line ds x h (Rattle.std.proofs.lemmas.List.Elements.All-tail IsWrittenDeclaration d ds a))
-  where
-    go : (b : Bool) → IsWrittenDeclaration (declaration line ds x) → IsWrittenDeclaration (if b then d else declaration line ds x)
-    go true ih = Rattle.std.proofs.lemmas.List.Elements.All-head IsWrittenDeclaration d ds a
-    go false ih = ih
-
-other_written : (d : Declaration) (x : List ℕ) → IsName x → IsWrittenDeclaration d → IsWrittenDeclaration (record d { name = x })
-other_written d x h w = record { named = h; few_extents = w.few_extents; extents = w.extents }
 
 -- ---- the tangent of a unit
 
@@ -104,7 +73,7 @@ module _ (c : Carried) (ps : List Procedure) (units : List (List ℕ)) (u : Proc
   A v = Unit {0}
 
   helper_stands : (v : Var) → among v hs ≡ true → Q v (Some 0)
-  helper_stands v h = has_helper (variables u) units a hs free are_helpers v h
+  helper_stands v h = has_helper_for tangent_text (variables u) units a hs free are_helpers v h
 
   works_stand : (k : ℕ) → 1 ≤ k → k ≤ parts_used a u.body → Q (helper work k) (Some 0)
   works_stand k low high = helper_stands (helper work k) (among-append (helper work k) (helpers_from work 1 (parts_used a u.body)) (helpers_from temp 1 (temps_used a u.body)) ∙ or_left (among (helper work k) (helpers_from work 1 (parts_used a u.body))) (among (helper work k) (helpers_from temp 1 (temps_used a u.body))) (has_from work k 1 (parts_used a u.body) low (omega arith)))
@@ -113,102 +82,23 @@ module _ (c : Carried) (ps : List Procedure) (units : List (List ℕ)) (u : Proc
   temps_stand k low high = helper_stands (helper temp k) (among-append (helper temp k) (helpers_from work 1 (parts_used a u.body)) (helpers_from temp 1 (temps_used a u.body)) ∙ or_right (among (helper temp k) (helpers_from work 1 (parts_used a u.body))) (among (helper temp k) (helpers_from temp 1 (temps_used a u.body))) (has_from temp k 1 (temps_used a u.body) low (omega arith)))
 
   shadow_stands : (x : List ℕ) → a (plain x) ≡ true → has_var (plain x) ns ≡ true → has_var (shadow x) ns ≡ true
-  shadow_stands x k q = has_shadow (variables u) units a hs free are_helpers x (plain_known (variables u) units a hs free are_helpers x q) k
-
-  source : OverCode Q A Any u.body
-  source = source_code Q A (Known (variables u)) (λ x n k. has_plain (variables u) units a hs free are_helpers x k) ps u u.body written.body kernel (names_known u) calls
+  shadow_stands x k q = has_shadow_for tangent_text (variables u) units a hs free are_helpers x (plain_known_for tangent_text (variables u) units a hs free are_helpers x q) k
 
   body_over : (line : ℕ) (at : List (List ℕ)) → Each (λ x. (has_name x (variables u) ≡ true) × (a (plain x) ≡ true)) at → OverCode Q A Any (cleared (arrays_of u) line at +++ tangents (plan_in c ps u.name) u.body)
   body_over line at stand =
       over_append Q A Any (cleared (arrays_of u) line at) (tangents (plan_in c ps u.name) u.body)
       (cleared_over Q A Any (plan_in c ps u.name) (parts_used a u.body) (temps_used a u.body) works_stand temps_stand (λ x n k q. shadow_stands x k q) (λ x k q. shadow_stands x k q) (arrays_of u) line at (λ x k q. tt) (λ x k q. q)
-      (each_more (λ x. (has_name x (variables u) ≡ true) × (a (plain x) ≡ true)) (λ x. Q (plain x) None × (a (plain x) ≡ true)) (λ x k. (has_plain (variables u) units a hs free are_helpers x k.0, k.1)) at stand))
-      (list_over Q A Any (plan_in c ps u.name) (parts_used a u.body) (temps_used a u.body) works_stand temps_stand (λ x n k q. shadow_stands x k q) (λ x k q. shadow_stands x k q) u.body source takes (omega arith) (omega arith))
-
-  shadow_named : (x : List ℕ) → has_name x (variables u) ≡ true → a (plain x) ≡ true → IsName (name_in ns (shadow x))
-  shadow_named x h marked = (named_free (variables u) units a hs free are_helpers (shadow x) (has_shadow (variables u) units a hs free are_helpers x h marked)).0
-
-  dummies_written : (xs : List (List ℕ)) → Each (λ x. IsName x × (has_name x (variables u) ≡ true)) xs → Each IsName (shadows_behind a ns xs)
-  dummies_written [] h = tt
-  dummies_written (x ∷ xs) h = go (a (plain x)) refl (dummies_written xs h.1)
-    where
-      go : (b : Bool) → a (plain x) ≡ b → Each IsName (shadows_behind a ns xs) → Each IsName (if b then x ∷ name_in ns (shadow x) ∷ shadows_behind a ns xs else x ∷ shadows_behind a ns xs)
-      go true e ih = (h.0.0, (shadow_named x h.0.1 e, ih))
-      go false e ih = (h.0.0, ih)
-
-  declared_written : (xs : List (List ℕ)) → Each (λ x. IsName x × (has_name x (variables u) ≡ true)) xs → All IsWrittenDeclaration (declared_behind a ns u xs)
-  declared_written [] h = All-nil IsWrittenDeclaration
-  declared_written (x ∷ xs) h = go (a (plain x)) refl (declared_written xs h.1)
-    where
-      here : IsWrittenDeclaration (declaration u.line u.declarations x)
-      here = declaration_written u.line u.declarations x h.0.0 written.declarations
-
-      go : (b : Bool) → a (plain x) ≡ b → All IsWrittenDeclaration (declared_behind a ns u xs) →
-          All IsWrittenDeclaration (if b then declaration u.line u.declarations x ∷ record (declaration u.line u.declarations x) { name = name_in ns (shadow x) } ∷ declared_behind a ns u xs else declaration u.line u.declarations x ∷ declared_behind a ns u xs)
-      go true e ih =
-          All-cons IsWrittenDeclaration (declaration u.line u.declarations x) (record (declaration u.line u.declarations x) { name = name_in ns (shadow x) } ∷ declared_behind a ns u xs) here
-          (All-cons IsWrittenDeclaration (record (declaration u.line u.declarations x) { name = name_in ns (shadow x) }) (declared_behind a ns u xs) (other_written (declaration u.line u.declarations x) (name_in ns (shadow x)) (shadow_named x h.0.1 e) here) ih)
-      go false e ih = All-cons IsWrittenDeclaration (declaration u.line u.declarations x) (declared_behind a ns u xs) here ih
-
-  helpers_written : (line : ℕ) (vs : List Var) → Each (λ v. IsName (name_in ns v)) vs → All IsWrittenDeclaration (declared_helpers ns line vs)
-  helpers_written line [] h = All-nil IsWrittenDeclaration
-  helpers_written line (v ∷ vs) h = All-cons IsWrittenDeclaration (scalar line (name_in ns v)) (declared_helpers ns line vs) (scalar_written line (name_in ns v) h.0) (helpers_written line vs h.1)
-
-  helper_names : Each (λ v. IsName (name_in ns v)) hs
-  helper_names = each_var (λ v. IsName (name_in ns v)) hs (λ v h. (named_free (variables u) units a hs free are_helpers v (helper_stands v h)).0)
-
-  dummies_known : Each (λ x. IsName x × (has_name x (variables u) ≡ true)) u.dummies
-  dummies_known = each_name (λ x. IsName x × (has_name x (variables u) ≡ true)) u.dummies (λ x h. let k = dummy_among u x h in ((of_each IsFree (variables u) free x k).0, k))
-
-  variables_known : Each (λ x. IsName x × (has_name x (variables u) ≡ true)) (variables u)
-  variables_known = each_name (λ x. IsName x × (has_name x (variables u) ≡ true)) (variables u) (λ x h. ((of_each IsFree (variables u) free x h).0, h))
+      (each_more (λ x. (has_name x (variables u) ≡ true) × (a (plain x) ≡ true)) (λ x. Q (plain x) None × (a (plain x) ≡ true)) (λ x k. (has_plain_for tangent_text (variables u) units a hs free are_helpers x k.0, k.1)) at stand))
+      (list_over Q A Any (plan_in c ps u.name) (parts_used a u.body) (temps_used a u.body) works_stand temps_stand (λ x n k q. shadow_stands x k q) (λ x k q. shadow_stands x k q) u.body (source_formed tangent_text units u a hs written free are_helpers ps kernel calls) takes (omega arith) (omega arith))
 
   unit_written : (at : List (List ℕ)) → IsName (tangent_name ps u.name) → Each (λ x. (has_name x (variables u) ≡ true) × (a (plain x) ≡ true)) at → IsWrittenProcedure (tangent_unit c ps units u at)
-  unit_written at named stand = record {
-    named = named;
-    dummies = all_each IsName (shadows_behind a ns u.dummies) (dummies_written u.dummies dummies_known);
-    declarations = All-append IsWrittenDeclaration (declared_behind a ns u (variables u)) (declared_helpers ns u.line hs) (declared_written (variables u) variables_known) (helpers_written u.line hs helper_names);
-    body = written_code Q A Any (naming ns) (λ v n q. named_indexed (variables u) units a hs free are_helpers v q) (cleared (arrays_of u) u.line at +++ tangents (plan_in c ps u.name) u.body) (body_over u.line at stand);
-  }
+  unit_written at named stand = made_written tangent_text units u a hs written free are_helpers (tangent_name ps u.name) (cleared (arrays_of u) u.line at +++ tangents (plan_in c ps u.name) u.body) named (body_over u.line at stand)
 
 -- ---- the names of tangents
 
--- a text with an underscore keeps it, with something before it, after it, or with a number at its end
-underscored_behind : (x y : List ℕ) → underscored y ≡ true → underscored (x ++ y) ≡ true
-underscored_behind [] y h = h
-underscored_behind (d ∷ x) y h = or_right (d == 95) (underscored (x ++ y)) (underscored_behind x y h)
-
-underscored_front : (x y : List ℕ) → underscored x ≡ true → underscored (x ++ y) ≡ true
-underscored_front [] y h = absurd cc
-underscored_front (d ∷ x) y h = either (d == 95) (underscored x) ((d == 95) || underscored (x ++ y)) h (or_left (d == 95) (underscored (x ++ y))) (λ e. or_right (d == 95) (underscored (x ++ y)) (underscored_front x y e))
-
-underscored_candidate : (b : List ℕ) (i : ℕ) → underscored b ≡ true → underscored (candidate b i) ≡ true
-underscored_candidate b zero h = h
-underscored_candidate b (suc i) h = underscored_front b (codes "_" ++ digits (suc i)) h
-
--- a fresh name keeps it
-underscored_free : (tries i : ℕ) (b : List ℕ) (taken : List (List ℕ)) → underscored b ≡ true → underscored (first_free tries i b taken) ≡ true
-underscored_free zero i b taken h = underscored_candidate b i h
-underscored_free (suc tries) i b taken h = go (has_name (candidate b i) taken) (underscored_free tries (suc i) b taken h)
-  where
-    go : (t : Bool) → underscored (first_free tries (suc i) b taken) ≡ true → underscored (if t then first_free tries (suc i) b taken else candidate b i) ≡ true
-    go true ih = ih
-    go false ih = underscored_candidate b i h
-
--- so the name of a unit's tangent is written and has an underscore, by which it isn't a reserved one
-pub tangent_named : (taken : List (List ℕ)) (us : List Procedure) (name : List ℕ) → Each (λ u. IsName u.name) us → is_unit us name ≡ true → IsMadeName (named_after (codes "_D") taken us name)
-tangent_named taken [] name w h = absurd cc
-tangent_named taken (u ∷ us) name w h = go (name_eq u.name name) h (λ g. tangent_named (taken ++ (made ∷ [])) us name w.1 g)
-  where
-    made : List ℕ
-    made = fresh (u.name ++ codes "_D") taken
-
-    here : IsMadeName (fresh (u.name ++ codes "_D") taken)
-    here = (fresh-name (u.name ++ codes "_D") taken (name-append u.name (codes "_D") w.0 refl), underscored_free (length taken) 0 (u.name ++ codes "_D") taken (underscored_behind u.name (codes "_D") refl))
-
-    go : (b : Bool) → (b || is_unit us name) ≡ true → (is_unit us name ≡ true → IsMadeName (named_after (codes "_D") (taken ++ (fresh (u.name ++ codes "_D") taken ∷ [])) us name)) → IsMadeName (if b then fresh (u.name ++ codes "_D") taken else named_after (codes "_D") (taken ++ (fresh (u.name ++ codes "_D") taken ∷ [])) us name)
-    go true h ih = here
-    go false h ih = ih h
+-- each is written and has an underscore, by which it isn't a reserved one
+tangent_named : (taken : List (List ℕ)) (us : List Procedure) (name : List ℕ) → Each (λ u. IsName u.name) us → is_unit us name ≡ true → IsMadeName (named_after (codes "_D") taken us name)
+tangent_named = made_named (codes "_D") refl refl
 
 -- ---- what calls take
 
