@@ -1,6 +1,6 @@
 //! Units by their names, and the actuals of a call that are variables.
 
-ghost use Rattle.std.specs.Prelude.{◌≡◌, ◌++◌, OnOk, IfOk, MatchOption, None, Some, map};
+ghost use Rattle.std.specs.Prelude.{◌≡◌, ◌++◌, [], OnOk, IfOk, MatchOption, None, Some, map};
 ghost use Rattle.adj_tree.specs.View.{term_of, terms_of};
 ghost use Rattle.def_flow.specs.Problem.{bound, name_of, with_actual};
 ghost use Rattle.adj_flow.specs.Rows.{row_of};

@@ -1,5 +1,5 @@
 -- What is known of the units that are called is what the sweeps of calls know.
-use Rattle.std.proofs.Common.{◌≡◌, ℕ, zero, suc, ◌+◌, ◌≤◌, ◌<◌, Bool, false, List, [], ◌∷◌, map, length, drop, get_or, Some, None, refl, sym, ap, ◌∙◌, subst, arith, if◌then◌else◌}
+use Rattle.std.proofs.Common.{◌≡◌, ℕ, zero, suc, ◌+◌, ◌≤◌, ◌<◌, Bool, false, List, [], ◌∷◌, map, length, drop, get_or, Some, None, refl, sym, ap, ◌∙◌, subst, arith, add-one, if◌then◌else◌}
 use Rattle.std.specs.Prelude.{position, Option, slice_get, unwrap_or}
 use Rattle.std.proofs.lemmas.List.{length-map}
 use Rattle.adj_tree.specs.Code.{plain, name_eq, Procedure}
@@ -96,6 +96,13 @@ dummies_on m k names ws rs j d lt at =
 -- what is said of the j-th of some units
 abbrev saying : Marked → List Procedure → ℕ → Procedure → List ℕ × List Dummy
 saying m ps k u = (adjoint_name ps u, dummies_said m k u.dummies (map (is_written ps u) u.dummies) (map (is_read ps u) u.dummies))
+
+-- what is said of the units that are left begins with what is said of the one at hand
+pub said_on : (m : Marked) (k : ℕ) (us : List Unit) (xs : List (List ℕ)) (ws rs : List (List Bool)) (u : Unit) (x : List ℕ) (w r : List Bool) → k < length us → u ≡ get_or us k u → k < length xs → x ≡ get_or xs k x → k < length ws → w ≡ get_or ws k w → k < length rs → r ≡ get_or rs k r →
+    said_of m k (map procedure_of (drop k us)) (drop k xs) (drop k ws) (drop k rs) ≡ (x, dummies_said m k (procedure_of u).dummies w r) ∷ said_of m (k + 1) (map procedure_of (drop (k + 1) us)) (drop (k + 1) xs) (drop (k + 1) ws) (drop (k + 1) rs)
+said_on m k us xs ws rs u x w r lu au lx ax lw aw lr ar =
+    (λ i. said_of m k (map procedure_of (from_here us k u lu au i)) (from_here xs k x lx ax i) (from_here ws k w lw aw i) (from_here rs k r lr ar i))
+    ∙ ap (λ j. (x, dummies_said m k (procedure_of u).dummies w r) ∷ said_of m j (map procedure_of (drop (k + 1) us)) (drop (k + 1) xs) (drop (k + 1) ws) (drop (k + 1) rs)) (sym (add-one k))
 
 said_at : (m : Marked) (ps : List Procedure) (k : ℕ) (us : List Procedure) (j : ℕ) (u : Procedure) → At us j u → At (sayings m ps k us) j (saying m ps (k + j) u)
 said_at m ps k [] j u h = absurd (let l = h.within in omega arith)

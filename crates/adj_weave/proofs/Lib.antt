@@ -7,6 +7,7 @@ pub mod Calling
 pub mod Edges
 pub mod Reached
 pub mod Known
+pub mod Facts
 pub mod Declared
 pub mod Taking
 pub mod Flagged

@@ -110,6 +110,13 @@ all_are b m none ps h t told all is =
 pub reaches : {B : Type 0} (f : Procedure → B) (us : List units.Unit) (xs : List B) (k : ℕ) → k < length us → xs ≡ map f (map procedure_of us) → k < length xs
 reaches f us xs k lt h = subst (λ m. k < m) (sym (ap length h ∙ length-map (map procedure_of us) f ∙ length-map us procedure_of)) lt
 
+-- the unit at a place of units that are those of a program
+pub unit_there : (us own : List units.Unit) → us ≡ own → (k : ℕ) → k < length own → (u : units.Unit) → u ≡ get_or us k u → At (map procedure_of own) k (procedure_of u)
+unit_there us own same k lt u is = unit_stands own k u lt (is ∙ ap (λ xs. get_or xs k u) same)
+
+pub number_there : (us own : List units.Unit) → us ≡ own → (k : ℕ) → k < length own → (u : units.Unit) → u ≡ get_or us k u → unit_at k (map procedure_of own) ≡ procedure_of u ∷ []
+number_there us own same k lt u is = at_number (map procedure_of own) k (procedure_of u) (unit_there us own same k lt u is)
+
 -- the head of a number
 pub head_there : (us : List units.Unit) (k : ℕ) → k < length us → (u : units.Unit) × (unit_at k (map procedure_of us) ≡ procedure_of u ∷ [])
 head_there us k lt = let o = at_there us k lt in (o.0, at_number (map procedure_of us) k (procedure_of o.0) (at_map procedure_of us k o.0 o.1))

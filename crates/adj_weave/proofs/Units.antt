@@ -5,6 +5,7 @@ use Rattle.adj_tree.specs.Code.{Var, plain, shadow, helper, Code, Declaration, P
 use Rattle.def_meaning.specs.Apart.{is_named, has_name, AreApart}
 use Rattle.def_meaning.specs.Rename.{rename}
 use Rattle.def_meaning.specs.Written.{find_unit}
+use Rattle.def_names.specs.Fault.{run_rules}
 use Rattle.def_names.specs.NameFaults.{is_rank_for}
 use Rattle.def_names.specs.Variables.{variables, rank}
 use Rattle.def_names.specs.Reserved.{reserved}
@@ -21,6 +22,7 @@ use Rattle.def_sweep.specs.Marking.{ProgramMarks, SplitsNothing, first_statement
 use Rattle.def_sweep.specs.Program.{helpers_used_with, adjoint_names_with, adjoint_unit_with, schedules_in}
 use Rattle.def_sweep.specs.Emission.{adjoint_body_with}
 use Rattle.law_emitted.proofs.Lists.{Each, each_found}
+use Rattle.law_emitted.specs.Checked.{IsChecked}
 use Rattle.law_emitted.specs.Shadowed.{HasShadows, AllHaveShadows}
 use Rattle.law_emitted.proofs.Over.{OverCode, Any}
 use Rattle.law_emitted.proofs.Tables.{among, has_var, plain_known}
@@ -33,7 +35,7 @@ use Rattle.law_emitted.proofs.AdjointNames.{body_holds}
 use Rattle.adj_naming.specs.declared.names.Names.{Names}
 use Rattle.adj_naming.specs.Sets.{has_variable, AreDifferent}
 use Rattle.adj_naming.specs.Table.{table_of, named_by}
-use Rattle.adj_weave.specs.Shared.{IsCheckedBySome, HaveShadows}
+use Rattle.adj_weave.specs.Shared.{HaveShadows}
 use Rattle.adj_weave.proofs.Declared.{shadow_undeclared, helper_undeclared}
 use Rattle.adj_weave.proofs.Renamed.{code_same}
 
@@ -85,7 +87,7 @@ shadows_each : (m : ProgramMarks) (ps us : List Procedure) → AllHaveShadows m 
 shadows_each m ps [] h = tt
 shadows_each m ps (u ∷ us) h = (h.0, shadows_each m ps us h.1)
 
-module _ (sb : Bool) (m : ProgramMarks) (unsplit : SplitsNothing m) (ps : List Procedure) (checked : IsCheckedBySome ps) (shadowed : AllHaveShadows m ps ps) (u : Procedure) (found : find_unit ps u.name ≡ Some u) (units at_turn at_end : List (List ℕ)) (turned : HaveShadows m u at_turn) (ended : HaveShadows m u at_end) where
+module _ (sb : Bool) (m : ProgramMarks) (unsplit : SplitsNothing m) (ps : List Procedure) (checked : IsChecked run_rules ps) (shadowed : AllHaveShadows m ps ps) (u : Procedure) (found : find_unit ps u.name ≡ Some u) (units at_turn at_end : List (List ℕ)) (turned : HaveShadows m u at_turn) (ended : HaveShadows m u at_end) where
   abbrev a : Vars
   a = m.shadowed u.name
 
@@ -108,7 +110,7 @@ module _ (sb : Bool) (m : ProgramMarks) (unsplit : SplitsNothing m) (ps : List P
   A v = (rank (adjoint_unit_with sb m ps units u at_turn at_end) (name_in ns v) == 0) ≡ false
 
   sound : UnitSound ps u × NamesSound ps u
-  sound = each_found (λ u. UnitSound ps u × NamesSound ps u) ps (all_names_sound checked.rules ps checked.checked) u.name u found
+  sound = each_found (λ u. UnitSound ps u × NamesSound ps u) ps (all_names_sound run_rules ps checked) u.name u found
 
   shadows : HasShadows (plan_in m ps u) (first_statement ps u.name) u.body
   shadows = each_found (λ u. HasShadows (plan_in m ps u) (first_statement ps u.name) u.body) ps (shadows_each m ps ps shadowed) u.name u found
@@ -120,7 +122,7 @@ module _ (sb : Bool) (m : ProgramMarks) (unsplit : SplitsNothing m) (ps : List P
   over =
       let s = sound.0 in
       let n = sound.1 in
-      let f = follows_by m ps (all_named checked.rules ps checked.checked) u unsplit (schedules_in sb ps) (first_statement ps u.name) u.body s.calls shadows in
+      let f = follows_by m ps (all_named run_rules ps checked) u unsplit (schedules_in sb ps) (first_statement ps u.name) u.body s.calls shadows in
       body_holds sb m ps units u s.written s.kernel s.free s.calls f n.dummies_once n.extent_dummy n.extents n.stands at_turn at_end (marked at_turn turned) (marked at_end ended) Any f
 
   -- the names of the text are kept

@@ -1,9 +1,9 @@
 -- What is known where the adjoint of a unit is written.
-use Rattle.std.specs.Prelude.{◌≡◌, ℕ, Bool, List, [], ◌++◌, map, Some, true}
+use Rattle.std.specs.Prelude.{◌≡◌, ℕ, Bool, List, [], ◌++◌, Some, true}
 use Rattle.adj_tree.specs.Code.{plain, Procedure}
-use Rattle.adj_tree.specs.View.{procedure_of}
+use Rattle.adj_tree.specs.View.{procedure_of, procedures_of}
 use Rattle.def_meaning.specs.Written.{find_unit}
-use Rattle.def_names.specs.Fault.{Rules}
+use Rattle.def_names.specs.Fault.{run_rules}
 use Rattle.def_names.specs.Variables.{variables}
 use Rattle.def_meaning.specs.Apart.{has_name}
 use Rattle.def_names.specs.Reserved.{reserved}
@@ -20,14 +20,9 @@ use Rattle.adj_weave.specs.declared.unit.Part.{Part}
 use Rattle.adj_weave.specs.Marked.{program_marks, reads_in}
 use Rattle.adj_weave.specs.Alike.{AreAlike}
 
--- a checked program in kernel form, by the rules of a text that a user writes or by those of one that is run
-pub record IsCheckedBySome (ps : List Procedure) : Type 0 where
-  pub rules : Rules
-  pub checked : IsChecked rules ps
-
 -- the units of the source
 abbrev pub sources : Shared → List Procedure
-sources s = map procedure_of s.units.now
+sources s = procedures_of s.checked.now.program
 
 -- whether marked loops are reversed by schedules
 abbrev pub reversed_for : Shared → Bool
@@ -37,9 +32,9 @@ reversed_for s = are_reversed s.loops
 abbrev pub marks_for : Shared → ProgramMarks
 marks_for s = program_marks s.marked
 
--- what all units share is that of a checked program, whose marks have the shadows that they use
+-- what all units share is that of a checked program in kernel form, whose marks have the shadows that they use
 pub record IsShared (s : Shared) : Type 0 where
-  pub checked : IsCheckedBySome (sources s)
+  pub checked : IsChecked run_rules (sources s)
   pub shadows : AllHaveShadows (marks_for s) (sources s) (sources s)
   pub callees : KnowsAll s.callees.now (callee_in (marks_for s) (sources s)) (reads_in (sources s))
   pub taken : s.taken.now ≡ all_added [] (s.names.now ++ reserved)

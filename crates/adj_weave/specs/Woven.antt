@@ -2,7 +2,6 @@
 use Rattle.std.specs.Prelude.{◌≡◌, List, [], ◌∷◌, ◌++◌, map, Bool, if◌then◌else◌}
 use Rattle.adj_tree.specs.Code.{Procedure}
 use Rattle.adj_tree.specs.View.{procedure_of}
-use Rattle.def_names.specs.Variables.{variables}
 use Rattle.def_sweep.specs.Names.{adjoint_name}
 use Rattle.def_sweep.specs.Marking.{ProgramMarks, first_statement}
 use Rattle.def_sweep.specs.Program.{has_adjoint, is_carried_with, all_units, emitted_adjoint_with}
@@ -14,7 +13,6 @@ use Rattle.adj_weave.specs.Shared.{sources, marks_for, IsShared}
 
 -- by these marks a table tells of each unit of the program, where h is the head; whether marked loops are reversed by schedules
 pub record IsTable (b : Bool) (m : ProgramMarks) (ps : List Procedure) (h : Procedure) (t : Table) : Type 0 where
-  pub variables : t.variables.items ≡ map variables ps
   pub adjoints : t.adjoints.items ≡ map (adjoint_name ps) ps
   pub numbers : t.numbers.items ≡ map (λ u. first_statement ps u.name) ps
   pub adjointed : t.found.adjointed ≡ map (λ u. has_adjoint m ps h u.name) ps

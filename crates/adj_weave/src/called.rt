@@ -1,8 +1,11 @@
 //! What the sweeps of calls know of the units of a program.
 
 ghost use Rattle.std.specs.Prelude.{◌≡◌, ◌+◌, IfOk, map, length};
-ghost use Rattle.adj_tree.specs.View.{procedure_of};
+ghost use Rattle.adj_tree.specs.View.{procedures_of};
 ghost use Rattle.def_meaning.specs.Apart.{AreApart};
+ghost use Rattle.def_meaning.specs.LeastSet.{least_rows};
+ghost use Rattle.def_meaning.specs.Read.{read_rule};
+ghost use Rattle.def_meaning.specs.Written.{write_rule};
 ghost use Rattle.def_sweep.specs.Declared.{unit_name};
 ghost use Rattle.def_sweep.specs.Names.{adjoint_name};
 ghost use Rattle.def_sweep.specs.Marking.{callee_in};
@@ -11,11 +14,12 @@ ghost use Rattle.adj_weave.specs.Marked.{program_marks, reads_in, HasUnits, Know
 ghost use Rattle.adj_weave.specs.Orders.{dummies_said, said, said_of};
 
 use crate::marks::Marked;
+use crate::source::units_of;
 use adj_reach::flag_at;
 use adj_sets::{NameSet, add_names};
 use adj_sweep::callees::{Callee, Callees, Dummy};
-use adj_symbols_writes::{read_dummies, written_dummies};
-use adj_tree::{Flags, Memory, Name, Unit};
+use adj_symbols::Checked;
+use adj_tree::{Memory, Name};
 use std::alloc::Global;
 
 // What the sweeps of calls know of the dummies of the unit at a place, of which flags say whether it writes them, and whether it reads
@@ -50,26 +54,24 @@ fn dummies_of(
     Ok(made)
 }
 
-// What is known of each unit, by the names of their adjoints and by the dummies that they write and read.
+// What is known of each unit of a checked program, by the names of their adjoints.
 fn known_units(
     alloc: Global,
     marked: &Marked<'_>,
-    units: &[Unit],
+    checked: &Checked,
     adjoints: &[Name],
-    written: &[Flags],
-    read: &[Flags],
 ) -> Result<Vec<Callee>, Memory>
-    requires units { HasUnits marked.now (length units.now) }
-    requires named { length adjoints.now ≡ length units.now }
-    requires written { length written.now ≡ length units.now }
-    requires read { length read.now ≡ length units.now }
-    ensures known { IfOk result (λ v. map said v.items ≡ said_of marked.now 0 (map procedure_of units.now) adjoints.now written.now read.now) }
+    requires units { HasUnits marked.now (length checked.now.program.units) }
+    requires named { length adjoints.now ≡ length checked.now.program.units }
+    ensures known { IfOk result (λ v. map said v.items ≡ said_of marked.now 0 (procedures_of checked.now.program) adjoints.now (least_rows write_rule (procedures_of checked.now.program)) (least_rows read_rule (procedures_of checked.now.program))) }
 {
+    let units = units_of(checked);
     let mut made = Vec::new(alloc);
     for (k, unit) in units.iter().enumerate() {
         let names = unit.dummies.as_slice();
-        let own = written[k].as_slice();
-        let dummies = dummies_of(alloc, marked, k, names, own, read[k].as_slice())?;
+        let written = checked.writes(k).as_slice();
+        let read = checked.reads(k).as_slice();
+        let dummies = dummies_of(alloc, marked, k, names, written, read)?;
         made.push(Callee {
             adjoint: adjoints[k].copy(alloc)?,
             dummies,
@@ -78,26 +80,23 @@ fn known_units(
     Ok(made)
 }
 
-/// What the sweeps of calls know of the units of a program, by the names of the units and of their adjoints.
+/// What the sweeps of calls know of the units of a checked program, by the names of the units and of their adjoints.
 pub fn known_callees(
     alloc: Global,
     marked: &Marked<'_>,
-    units: &[Unit],
+    checked: &Checked,
     names: &[Name],
     adjoints: &[Name],
 ) -> Result<Callees, Memory>
-    requires units { KnowsUnits marked.now (map procedure_of units.now) }
-    requires names { names.now ≡ map unit_name (map procedure_of units.now) }
+    requires units { KnowsUnits marked.now (procedures_of checked.now.program) }
+    requires names { names.now ≡ map unit_name (procedures_of checked.now.program) }
     requires apart { AreApart names.now }
-    requires adjoints { adjoints.now ≡ map (adjoint_name (map procedure_of units.now)) (map procedure_of units.now) }
-    ensures known { IfOk result (λ c. KnowsAll c (callee_in (program_marks marked.now) (map procedure_of units.now)) (reads_in (map procedure_of units.now))) }
+    requires adjoints { adjoints.now ≡ map (adjoint_name (procedures_of checked.now.program)) (procedures_of checked.now.program) }
+    ensures known { IfOk result (λ c. KnowsAll c (callee_in (program_marks marked.now) (procedures_of checked.now.program)) (reads_in (procedures_of checked.now.program))) }
 {
     let mut set = NameSet::new(alloc)?;
     add_names(alloc, &mut set, names)?;
-    let written = written_dummies(alloc, units)?;
-    let read = read_dummies(alloc, units)?;
-    let rows = written.as_slice();
-    let known = known_units(alloc, marked, units, adjoints, rows, read.as_slice())?;
+    let known = known_units(alloc, marked, checked, adjoints)?;
     let other = Callee {
         adjoint: Name::from_slice(alloc, b"")?,
         dummies: Vec::new(alloc),

@@ -2,19 +2,19 @@
 
 ghost use Rattle.std.specs.Prelude.{◌≡◌, ◌<◌, Some, IfOk, length, map, slice_get};
 ghost use Rattle.adj_tree.specs.Code.{Procedure};
-ghost use Rattle.adj_tree.specs.View.{procedure_of, procedures_of};
+ghost use Rattle.adj_tree.specs.View.{procedures_of};
 ghost use Rattle.def_sweep.specs.MarkedAdjoint.{shadow_flags};
 ghost use Rattle.def_meaning.specs.Apart.{AreApart};
 ghost use Rattle.def_sweep.specs.Declared.{unit_name};
 ghost use Rattle.def_sweep.specs.Names.{adjoint_name};
 ghost use Rattle.adj_sweep_assignment.specs.View.{marks_of};
 ghost use Rattle.adj_weave.specs.Marked.{program_marks, IsOver};
-ghost use Rattle.adj_weave.specs.Shared.{IsCheckedBySome};
 
 use crate::marks::Marked;
-use crate::source::{adjoint_names as names_of_adjoints, all_variables, source_names, unit_names};
+use crate::source::{adjoint_names as names_of_adjoints, source_names, unit_names, units_of};
 use adj_sweep_assignment::Marking;
-use adj_tree::{Flags, Head, Items, Memory, Name, Program, Unit};
+use adj_symbols::Checked;
+use adj_tree::{Flags, Head, Items, Memory, Name};
 use std::alloc::Global;
 
 /// The name of the adjoint of a head, and for each dummy of the head whether it has a shadow.
@@ -25,13 +25,12 @@ pub struct HeadAdjoint {
 }
 
 // The name of the adjoint of each unit.
-fn adjoint_names(alloc: Global, units: &[Unit]) -> Result<Vec<Name>, Memory>
-    requires { AreApart (map unit_name (map procedure_of units.now)) }
-    ensures names { IfOk result (λ v. v.items ≡ map (adjoint_name (map procedure_of units.now)) (map procedure_of units.now)) }
+fn adjoint_names(alloc: Global, checked: &Checked) -> Result<Vec<Name>, Memory>
+    ensures names { IfOk result (λ v. v.items ≡ map (adjoint_name (procedures_of checked.now.program)) (procedures_of checked.now.program)) }
 {
+    let units = units_of(checked);
     let own = unit_names(alloc, units)?;
-    let variables = all_variables(alloc, units)?;
-    let source = source_names(alloc, own.as_slice(), variables.as_slice())?;
+    let source = source_names(alloc, own.as_slice(), checked)?;
     let names = names_of_adjoints(alloc, units, &source)?;
     Ok(names)
 }
@@ -50,19 +49,18 @@ fn shadow_flags(alloc: Global, marking: &Marking<'_>, names: &[Name]) -> Result<
 /// The adjoint of the head in what is emitted for it by these marks, found over the flow of the program.
 pub fn head_adjoint(
     alloc: Global,
-    program: &Program,
+    checked: &Checked,
     head: &Head,
     marked: Marked<'_>,
 ) -> Result<HeadAdjoint, Memory>
-    requires head { head.now.unit < length program.now.units }
-    requires checked { IsCheckedBySome (procedures_of program.now) }
-    requires flow { IsOver marked (procedures_of program.now) head.now.unit }
-    ensures name { (u : Procedure) → slice_get (procedures_of program.now) head.now.unit ≡ Some u → IfOk result (λ a. a.name ≡ adjoint_name (procedures_of program.now) u) }
-    ensures shadowed { (u : Procedure) → slice_get (procedures_of program.now) head.now.unit ≡ Some u → IfOk result (λ a. a.shadowed ≡ shadow_flags ((program_marks marked.entry).shadowed u.name) u.dummies) }
+    requires head { head.now.unit < length checked.now.program.units }
+    requires flow { IsOver marked (procedures_of checked.now.program) head.now.unit }
+    ensures name { (u : Procedure) → slice_get (procedures_of checked.now.program) head.now.unit ≡ Some u → IfOk result (λ a. a.name ≡ adjoint_name (procedures_of checked.now.program) u) }
+    ensures shadowed { (u : Procedure) → slice_get (procedures_of checked.now.program) head.now.unit ≡ Some u → IfOk result (λ a. a.shadowed ≡ shadow_flags ((program_marks marked.entry).shadowed u.name) u.dummies) }
 {
-    let units = program.units.as_slice();
+    let units = units_of(checked);
     let number = head.unit;
-    let names = adjoint_names(alloc, units)?;
+    let names = adjoint_names(alloc, checked)?;
     let name = names[number].copy(alloc)?;
     let marking = marked.of_unit(number);
     let flags = shadow_flags(alloc, &marking, units[number].dummies.as_slice())?;

@@ -4,8 +4,9 @@
 //! `numbers` those of statements, `marks` what is marked, `calls` and `found` the units that are emitted, and `called` what the
 //! sweeps of calls know of units. `head` gives the adjoint of a head as its caller sees it: its name, and which dummies have a shadow.
 //! Each clause says that the result is that of the emission's definition (`def_sweep/specs/Program.antt`), unless memory runs out.
-//! The crate stands on those definitions, on the sweeps (adj_sweep), names (adj_naming), variables (adj_symbols) and the flow of a
-//! program (adj_flow). The layer above uses `adjoint` and `head_adjoint`, and says whether marked loops are reversed by schedules.
+//! The crate stands on those definitions, on the sweeps (adj_sweep), names (adj_naming), the checked program (adj_symbols), of which
+//! it takes the variables and the written and read dummies, and the flow of a program (adj_flow). The layer above uses `adjoint` and
+//! `head_adjoint`, and says whether marked loops are reversed by schedules.
 #![tactic(auto)]
 
 pub mod analyses;

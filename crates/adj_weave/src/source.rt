@@ -2,27 +2,24 @@
 
 ghost use Rattle.std.specs.Prelude.{◌≡◌, ◌++◌, ◌∷◌, [], ℕ, List, IfOk, OnOk, map, flat_map, length};
 ghost use Rattle.adj_tree.specs.View.{procedure_of};
-ghost use Rattle.def_names.specs.Variables.{variables};
 ghost use Rattle.def_sweep.specs.Declared.{unit_name};
+ghost use Rattle.adj_symbols.specs.Checked.{AreFacts};
 ghost use Rattle.adj_sets.specs.Sets.{all_added};
 ghost use Rattle.adj_weave.specs.Orders.{adjoints_from, flagged};
 
 use adj_naming::joining::joined;
 use adj_naming::taken::Taken;
 use adj_sets::{NameSet, add_names};
-use adj_symbols::variables;
-use adj_tree::{Memory, Name, NameList, Unit};
+use adj_symbols::Checked;
+use adj_tree::{Memory, Name, Unit};
 use std::alloc::Global;
 
-/// The variables of each unit.
-pub fn all_variables(alloc: Global, units: &[Unit]) -> Result<Vec<NameList>, Memory>
-    ensures variables { IfOk result (λ v. v.items ≡ map variables (map procedure_of units.now)) }
+/// The units of a checked program.
+pub fn units_of(checked: &Checked) -> &[Unit]
+    ensures units { result.now ≡ checked.now.program.units }
+    ensures facts { AreFacts checked.now }
 {
-    let mut made = Vec::new(alloc);
-    for unit in units {
-        made.push(variables(alloc, unit)?)?;
-    }
-    Ok(made)
+    checked.program().units.as_slice()
 }
 
 /// The names of the units.
@@ -36,18 +33,15 @@ pub fn unit_names(alloc: Global, units: &[Unit]) -> Result<Vec<Name>, Memory>
     Ok(made)
 }
 
-/// The names of units, and those of the variables of all units.
-pub fn source_names(
-    alloc: Global,
-    units: &[Name],
-    variables: &[NameList],
-) -> Result<NameSet, Memory>
-    ensures names { IfOk result (λ s. s ≡ all_added [] (units.now ++ flat_map (λ (xs : List (List ℕ)). xs) variables.now)) }
+/// The names of the units of a checked program, and those of the variables of all units.
+pub fn source_names(alloc: Global, units: &[Name], checked: &Checked) -> Result<NameSet, Memory>
+    ensures names { IfOk result (λ s. s ≡ all_added [] (units.now ++ flat_map (λ (xs : List (List ℕ)). xs) checked.now.variables)) }
 {
+    let count = units_of(checked).len();
     let mut taken = NameSet::new(alloc)?;
     add_names(alloc, &mut taken, units)?;
-    for names in variables {
-        add_names(alloc, &mut taken, names.as_slice())?;
+    for unit in 0..count {
+        add_names(alloc, &mut taken, checked.variables(unit).as_slice())?;
     }
     Ok(taken)
 }

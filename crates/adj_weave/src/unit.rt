@@ -18,14 +18,15 @@ use adj_sweep::steps::MarkedLoops;
 use adj_sweep::used::helpers_used;
 use adj_sweep::uses::Known;
 use adj_sweep_assignment::Marking;
+use adj_symbols::Checked;
 use adj_tree::{Items, Memory, Name, Unit};
 use std::alloc::Global;
 
-/// What the adjoints of all units share: the units, their marks, whether marked loops are reversed, what is known of called units, the
+/// What the adjoints of all units share: the checked program, its marks, whether marked loops are reversed, what is known of called units, the
 /// names of the units and of the adjoints that are emitted, and the names that no new variable may have.
 #[derive(Clone, Copy)]
 pub struct Shared<'a> {
-    pub units: &'a [Unit],
+    pub checked: &'a Checked,
     pub marked: Marked<'a>,
     pub loops: MarkedLoops,
     pub callees: &'a Callees,

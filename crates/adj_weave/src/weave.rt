@@ -3,6 +3,7 @@
 ghost use Rattle.std.specs.Prelude.{◌≡◌, ◌++◌, ◌∷◌, [], ◌<◌, true, IfOk, OnOk, map, length};
 ghost use Rattle.adj_tree.specs.Code.{Procedure};
 ghost use Rattle.adj_tree.specs.View.{procedure_of, procedures_of};
+ghost use Rattle.def_kernel.specs.Form.{IsKernel};
 ghost use Rattle.def_meaning.specs.Apart.{AreApart};
 ghost use Rattle.def_sweep.specs.Declared.{unit_name, unit_at};
 ghost use Rattle.def_sweep.specs.Program.{has_adjoint, is_carried_with, emitted_adjoint_with, emitted_units_with, emitted_program_with};
@@ -10,7 +11,7 @@ ghost use Rattle.law_emitted.specs.Shadowed.{AllHaveShadows};
 ghost use Rattle.adj_sweep.specs.HelperSteps.{are_reversed};
 ghost use Rattle.adj_weave.specs.Marked.{program_marks, IsOver};
 ghost use Rattle.adj_weave.specs.Orders.{flagged};
-ghost use Rattle.adj_weave.specs.Shared.{sources, marks_for, reversed_for, IsCheckedBySome, IsPart};
+ghost use Rattle.adj_weave.specs.Shared.{sources, marks_for, reversed_for, IsPart};
 ghost use Rattle.adj_weave.specs.Woven.{IsTable, IsReady, head_of, only_if, emitted_for};
 
 use crate::called::known_callees;
@@ -18,19 +19,19 @@ use crate::found::{Found, found_units};
 use crate::marks::Marked;
 use crate::numbers::first_statements;
 use crate::shadows::{shadowed, unmarked};
-use crate::source::{add_all_flagged, adjoint_names, all_variables, source_names, unit_names};
+use crate::source::{add_all_flagged, adjoint_names, source_names, unit_names, units_of};
 use crate::unit::{Part, Shared, adjoint_unit};
 use adj_naming::naming::not_free;
 use adj_sets::{NameSet, add_names};
 use adj_sweep::steps::MarkedLoops;
-use adj_tree::{Head, Items, Memory, Name, NameList, Program, Unit, Units};
+use adj_symbols::Checked;
+use adj_tree::{Head, Items, Memory, Name, Program, Unit, Units};
 use std::alloc::Global;
 
-/// What is known of the units of a program before any is emitted, in their order: their variables, the names of their adjoints,
-/// the numbers of their first statements, and which are emitted.
+/// What is found of the units of a checked program before any is emitted, in their order: the names of their adjoints, the numbers of
+/// their first statements, and which are emitted.
 #[derive(Drop)]
 pub struct Table {
-    pub variables: Vec<NameList>,
     pub adjoints: Vec<Name>,
     pub numbers: Vec<usize>,
     pub found: Found,
@@ -73,39 +74,38 @@ fn found_by_names(
     Ok(found)
 }
 
-// What is known of the units of a program before any is emitted.
+// What is found of the units of a checked program before any is emitted.
 fn tabulated(
     alloc: Global,
     marked: &Marked<'_>,
-    units: &[Unit],
+    checked: &Checked,
     names: &[Name],
     head: usize,
     loops: MarkedLoops,
 ) -> Result<Table, Memory>
-    requires head { head < length units.now }
-    requires names { names.now ≡ map unit_name (map procedure_of units.now) }
+    requires head { head < length checked.now.program.units }
+    requires names { names.now ≡ map unit_name (procedures_of checked.now.program) }
     requires apart { AreApart names.now }
-    ensures table { IfOk result (λ t. (h : Procedure) → unit_at head (map procedure_of units.now) ≡ h ∷ [] → IsTable (are_reversed loops) (program_marks marked.now) (map procedure_of units.now) h t) }
+    ensures table { IfOk result (λ t. (h : Procedure) → unit_at head (procedures_of checked.now.program) ≡ h ∷ [] → IsTable (are_reversed loops) (program_marks marked.now) (procedures_of checked.now.program) h t) }
 {
-    let variables = all_variables(alloc, units)?;
-    let source = source_names(alloc, names, variables.as_slice())?;
+    let units = units_of(checked);
+    let source = source_names(alloc, names, checked)?;
     let adjoints = adjoint_names(alloc, units, &source)?;
     let numbers = first_statements(alloc, units)?;
     let found = found_by_names(alloc, marked, units, names, head, loops)?;
     Ok(Table {
-        variables,
         adjoints,
         numbers,
         found,
     })
 }
 
-// The names of all units of the source, and of the adjoints that are emitted.
-fn all_names(alloc: Global, units: &[Unit], table: &Table) -> Result<Vec<Name>, Memory>
+// The names of the units of the source, and those of the adjoints that are emitted.
+fn all_names(alloc: Global, own: Vec<Name>, table: &Table) -> Result<Vec<Name>, Memory>
     requires same { length table.now.found.adjointed ≡ length table.now.adjoints.items }
-    ensures names { IfOk result (λ v. v.items ≡ map unit_name (map procedure_of units.now) ++ flagged table.now.found.adjointed table.now.adjoints.items) }
+    ensures names { IfOk result (λ v. v.items ≡ own.items ++ flagged table.now.found.adjointed table.now.adjoints.items) }
 {
-    let mut all = unit_names(alloc, units)?;
+    let mut all = own;
     let flags = table.found.adjointed.as_slice();
     add_all_flagged(alloc, flags, table.adjoints.as_slice(), &mut all)?;
     Ok(all)
@@ -190,10 +190,10 @@ fn emitted(alloc: Global, shared: &Shared, table: &Table, aim: &Aim) -> Result<V
     requires table { IsTable (reversed_for shared.now) (marks_for shared.now) (sources shared.now) (head_of aim.now) table.now }
     ensures units { IfOk result (λ v. map procedure_of v.items ≡ emitted_units_with (reversed_for shared.now) (marks_for shared.now) (sources shared.now) (head_of aim.now) aim.now.vars.now aim.now.outvars.now (sources shared.now)) }
 {
-    let units = shared.units;
+    let checked = shared.checked;
+    let units = units_of(checked);
     let carried = table.found.carried.as_slice();
     let adjointed = table.found.adjointed.as_slice();
-    let variables = table.variables.as_slice();
     let adjoints = table.adjoints.as_slice();
     let numbers = table.numbers.as_slice();
     let mut made = Vec::new(alloc);
@@ -201,7 +201,7 @@ fn emitted(alloc: Global, shared: &Shared, table: &Table, aim: &Aim) -> Result<V
         let part = Part {
             unit,
             marking: shared.marked.of_unit(k),
-            variables: variables[k].as_slice(),
+            variables: checked.variables(k).as_slice(),
             adjoint: &adjoints[k],
             number: numbers[k],
         };
@@ -218,29 +218,29 @@ fn emitted(alloc: Global, shared: &Shared, table: &Table, aim: &Aim) -> Result<V
 /// marks they are. Marked loops are gone through as loops as others, or are reversed by schedules.
 pub fn adjoint(
     alloc: Global,
-    program: &Program,
+    checked: &Checked,
     head: &Head,
     marked: Marked<'_>,
     loops: MarkedLoops,
 ) -> Result<Program, Memory>
-    requires head { head.now.unit < length program.now.units }
-    requires checked { IsCheckedBySome (procedures_of program.now) }
-    requires flow { IsOver marked (procedures_of program.now) head.now.unit }
-    requires shadows { AllHaveShadows (program_marks marked) (procedures_of program.now) (procedures_of program.now) }
-    ensures emitted { IfOk result (λ p. procedures_of p ≡ emitted_program_with (are_reversed loops) (program_marks marked.entry) (procedures_of program.now) head.now.unit head.now.vars head.now.outvars) }
+    requires head { head.now.unit < length checked.now.program.units }
+    requires kernel { IsKernel (procedures_of checked.now.program) }
+    requires flow { IsOver marked (procedures_of checked.now.program) head.now.unit }
+    requires shadows { AllHaveShadows (program_marks marked) (procedures_of checked.now.program) (procedures_of checked.now.program) }
+    ensures emitted { IfOk result (λ p. procedures_of p ≡ emitted_program_with (are_reversed loops) (program_marks marked.entry) (procedures_of checked.now.program) head.now.unit head.now.vars head.now.outvars) }
 {
-    let units = program.units.as_slice();
+    let units = units_of(checked);
     let number = head.unit;
     let own = unit_names(alloc, units)?;
     let names = own.as_slice();
-    let table = tabulated(alloc, &marked, units, names, number, loops)?;
+    let table = tabulated(alloc, &marked, checked, names, number, loops)?;
     let adjoints = table.adjoints.as_slice();
-    let callees = known_callees(alloc, &marked, units, names, adjoints)?;
-    let all = all_names(alloc, units, &table)?;
+    let callees = known_callees(alloc, &marked, checked, names, adjoints)?;
+    let all = all_names(alloc, own, &table)?;
     let listed = all.as_slice();
     let taken = not_free(alloc, listed)?;
     let shared = Shared {
-        units,
+        checked,
         marked,
         loops,
         callees: &callees,

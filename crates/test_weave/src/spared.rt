@@ -64,14 +64,14 @@ pub(crate) struct Given<'a> {
 // The text of what is emitted for a checked program in kernel form, of which this is the flow.
 fn emitted(
     alloc: Global,
-    program: &Program,
+    checked: &Checked,
     flow: &Flow<'_>,
     head: &Head,
     given: Given<'_>,
 ) -> Result<Vec<u8>, Memory>
-    requires head { head.now.unit < length program.now.units }
-    requires checked { IsChecked run_rules (procedures_of program.now) }
-    requires flow { IsFlowOf (procedures_of program.now) head.now.unit flow.now }
+    requires head { head.now.unit < length checked.now.program.units }
+    requires checked { IsChecked run_rules (procedures_of checked.now.program) }
+    requires flow { IsFlowOf (procedures_of checked.now.program) head.now.unit flow.now }
 {
     let activity = activity(alloc, flow, head)?;
     let marks = Marks {
@@ -89,7 +89,7 @@ fn emitted(
         flow,
     };
     let marked = Marked::Found(found);
-    let emitted = adjoint(alloc, program, head, marked, MarkedLoops::Reversed)?;
+    let emitted = adjoint(alloc, checked, head, marked, MarkedLoops::Reversed)?;
     text(alloc, &emitted)
 }
 
@@ -107,7 +107,7 @@ fn answer(alloc: Global, checked: &Checked, given: Given<'_>) -> Result<Vec<u8>,
         return Ok(Vec::new(alloc));
     }
     let flow = flow(alloc, units, variables.as_slice(), 0)?;
-    emitted(alloc, program, &flow, &head, given)
+    emitted(alloc, checked, &flow, &head, given)
 }
 
 // Whether this is emitted for the program of a text.

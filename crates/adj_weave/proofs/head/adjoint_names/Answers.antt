@@ -1,17 +1,20 @@
-use Rattle.std.proofs.Common.{◌++◌, [], ℕ, List, map, ap, ◌∙◌}
+use Rattle.std.proofs.Common.{◌≡◌, ◌++◌, [], ℕ, List, map, ap, ◌∙◌}
 use Rattle.std.specs.Prelude.{flat_map}
-use Rattle.adj_tree.specs.View.{procedure_of}
+use Rattle.adj_tree.specs.View.{procedure_of, procedures_of}
 use Rattle.def_sweep.specs.Declared.{unit_name}
 use Rattle.adj_sets.specs.Sets.{all_added}
 use Rattle.adj_weave.specs.Orders.{adjoints_from}
+use Rattle.adj_weave.proofs.Facts.{units_apart}
 use Rattle.adj_weave.proofs.Ordered.{adjoint_list, all_joined}
 use Rattle.adj_weave.proofs.head.adjoint_names.Goals as goal
 
 pub returns : goal.returns
 returns c =
-    let ps = map procedure_of c.args.units.now in
-    let names = c.as_slice.ensures.value ∙ c.in_ok-own.ensures.names in
-    let rows = c.as_slice-2.ensures.value ∙ c.in_ok-variables.ensures.variables in
+    let known = c.args.checked.now in
+    let ps = procedures_of known.program in
+    let facts = c.units_of-units.ensures.facts in
+    let moved : map procedure_of c.units_of-units.result.now ≡ ps = ap (map procedure_of) c.units_of-units.ensures.units in
+    let names = c.as_slice.ensures.value ∙ c.in_ok-own.ensures.names ∙ ap (map unit_name) moved in
     let joined = λ (xss : List (List (List ℕ))). flat_map (λ (xs : List (List ℕ)). xs) xss in
-    let source = c.in_ok-source.ensures.names ∙ (λ i. all_added [] (names i ++ joined (rows i))) ∙ ap (λ xs. all_added [] (map unit_name ps ++ xs)) (all_joined ps) in
-    record { names = c.in_ok-names.ensures.names ∙ ap (λ s. adjoints_from s ps) source ∙ adjoint_list ps c.requires }
+    let source = c.in_ok-source.ensures.names ∙ (λ i. all_added [] (names i ++ joined (facts.variables i))) ∙ ap (λ xs. all_added [] (map unit_name ps ++ xs)) (all_joined ps) in
+    record { names = c.in_ok-names.ensures.names ∙ (λ i. adjoints_from (source i) (moved i)) ∙ adjoint_list ps (units_apart known facts) }

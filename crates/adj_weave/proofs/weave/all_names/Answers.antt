@@ -6,8 +6,4 @@ pub add_all_flagged-requires : goal.add_all_flagged-requires
 add_all_flagged-requires c = record { same = ap length c.as_slice-flags.ensures.members ∙ c.requires.same ∙ sym (ap length c.as_slice.ensures.value) }
 
 pub returns : goal.returns
-returns c =
-    let fs = c.args.table.now.found.adjointed in
-    record {
-      names = c.in_ok-add_all_flagged.ensures.names ∙ (λ i. c.in_ok-all.ensures.names i ++ flagged (c.as_slice-flags.ensures.members i) (c.as_slice.ensures.value i));
-    }
+returns c = record { names = c.in_ok-add_all_flagged.ensures.names ∙ (λ i. c.args.own.items ++ flagged (c.as_slice-flags.ensures.members i) (c.as_slice.ensures.value i)) }

@@ -1,26 +1,42 @@
-use Rattle.std.proofs.Common.{◌++◌, [], ℕ, List, map, ap, subst, ◌∙◌}
+use Rattle.std.proofs.Common.{◌≡◌, ◌<◌, ◌++◌, ◌∙◌, [], ℕ, List, length, map, ap, sym, subst}
 use Rattle.std.specs.Prelude.{flat_map}
-use Rattle.adj_tree.specs.View.{procedure_of}
+use Rattle.adj_tree.specs.Code.{Procedure}
+use Rattle.adj_tree.specs.View.{procedure_of, procedures_of}
 use Rattle.def_meaning.specs.Apart.{AreApart}
-use Rattle.def_sweep.specs.Declared.{unit_name}
+use Rattle.def_sweep.specs.Declared.{unit_name, unit_at}
+use Rattle.def_sweep.specs.Program.{has_adjoint, is_carried_with}
 use Rattle.adj_sets.specs.Sets.{all_added}
-use Rattle.adj_weave.specs.Orders.{adjoints_from}
+use Rattle.adj_sweep.specs.HelperSteps.{are_reversed}
+use Rattle.adj_weave.specs.Marked.{program_marks}
+use Rattle.adj_weave.specs.Orders.{adjoints_from, numbers_from}
 use Rattle.adj_weave.proofs.Ordered.{first_numbers, adjoint_list, all_joined}
 use Rattle.adj_weave.proofs.weave.tabulated.Goals as goal
 
+pub found_by_names-requires : goal.found_by_names-requires
+found_by_names-requires c =
+    let same = sym c.units_of-units.ensures.units in
+    record {
+      head = subst (λ us. c.args.head < length us) same c.requires.head;
+      names = c.requires.names ∙ ap (λ us. map unit_name (map procedure_of us)) same;
+      apart = c.requires.apart;
+    }
+
 pub returns : goal.returns
 returns c =
-    let ps = map procedure_of c.args.units.now in
+    let ps = procedures_of c.args.checked.now.program in
+    let m = program_marks c.args.marked.now in
+    let facts = c.units_of-units.ensures.facts in
+    let moved : map procedure_of c.units_of-units.result.now ≡ ps = ap (map procedure_of) c.units_of-units.ensures.units in
     let apart : AreApart (map unit_name ps) = subst AreApart c.requires.names c.requires.apart in
-    let rows = c.as_slice.ensures.value ∙ c.in_ok-variables.ensures.variables in
     let joined = λ (xss : List (List (List ℕ))). flat_map (λ (xs : List (List ℕ)). xs) xss in
-    let source = c.in_ok-source.ensures.names ∙ (λ i. all_added [] (c.requires.names i ++ joined (rows i))) ∙ ap (λ xs. all_added [] (map unit_name ps ++ xs)) (all_joined ps) in
+    let source = c.in_ok-source.ensures.names ∙ (λ i. all_added [] (c.requires.names i ++ joined (facts.variables i))) ∙ ap (λ xs. all_added [] (map unit_name ps ++ xs)) (all_joined ps) in
     record {
-      table = λ h at. record {
-        variables = c.in_ok-variables.ensures.variables;
-        adjoints = c.in_ok-adjoints.ensures.names ∙ ap (λ s. adjoints_from s ps) source ∙ adjoint_list ps apart;
-        numbers = c.in_ok-numbers.ensures.numbers ∙ first_numbers ps apart;
-        adjointed = c.in_ok-found.ensures.adjointed h at;
-        carried = c.in_ok-found.ensures.carried h at;
-      };
+      table = λ h at.
+          let there = ap (unit_at c.args.head) moved ∙ at in
+          record {
+            adjoints = c.in_ok-adjoints.ensures.names ∙ (λ i. adjoints_from (source i) (moved i)) ∙ adjoint_list ps apart;
+            numbers = c.in_ok-numbers.ensures.numbers ∙ ap (numbers_from 0) moved ∙ first_numbers ps apart;
+            adjointed = c.in_ok-found.ensures.adjointed h there ∙ ap (λ qs. map (λ (u : Procedure). has_adjoint m qs h u.name) qs) moved;
+            carried = c.in_ok-found.ensures.carried h there ∙ ap (λ qs. map (λ (u : Procedure). is_carried_with (are_reversed c.args.loops) m qs h u.name) qs) moved;
+          };
     }

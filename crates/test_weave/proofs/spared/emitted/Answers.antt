@@ -9,6 +9,9 @@ use Rattle.adj_weave.specs.Marked.{marks_told}
 use Rattle.law_analysed.proofs.Lending.{exact_shadows}
 use Rattle.test_weave.proofs.spared.emitted.Goals as goal
 
+pub adjoint-requires-clause-kernel : goal.adjoint-requires-clause-kernel
+adjoint-requires-clause-kernel c = c.requires.checked.kernel
+
 pub adjoint-requires-clause-shadows : goal.adjoint-requires-clause-shadows
 adjoint-requires-clause-shadows c =
     let f = c.args.flow.now in
