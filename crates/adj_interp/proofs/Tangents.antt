@@ -34,7 +34,7 @@ module _ {C D : Type 0} (h : C → D) (n : Numbers C) (m : Numbers D) (p : Proje
       λ i. (shape_fits (extents_seen h n m p u s (plain d) i) v.shape && (sym (length-map v.cells h) i == size_of v.shape)) && slots_seen u s ds vs i
 
   -- and so does an input
-  fits_seen : (u : Procedure) (input : List (Slot C)) → fits n u input ≡ fits m u (map (slot_seen h) input)
+  pub fits_seen : (u : Procedure) (input : List (Slot C)) → fits n u input ≡ fits m u (map (slot_seen h) input)
   fits_seen u input =
       slots_seen u (input_store n u input) u.dummies input
       ∙ ap (λ s. slots_fit m u s u.dummies (map (slot_seen h) input)) (entry_seen h n m p (λ x. x) u.dummies (map (from_slot n) input) (map (from_slot m) (map (slot_seen h) input)) (slots_alike input))

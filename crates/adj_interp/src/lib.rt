@@ -24,6 +24,6 @@ pub use cursor::Cursor;
 pub use dual::run_dual;
 pub use log::Log;
 pub use machine::Machine;
-pub use runs::run;
+pub use runs::{run, run_over};
 pub use stop::Stop;
 pub use tally::{Reversal, Tally};

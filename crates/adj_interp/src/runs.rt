@@ -73,7 +73,7 @@ fn used(budget: u64, left: u64, ended: &Result<(), Stop>) -> u64
 /// The run of a unit of a checked program on slots that fit it, over any numbers, from those on a tape, with at most so
 /// many statements. The tape has then the numbers that the run leaves, and the log says what the run counted, unless
 /// memory ran out.
-pub(crate) fn run_over<N: Number>(
+pub fn run_over<N: Number>(
     alloc: Global,
     program: &Checked,
     unit: usize,

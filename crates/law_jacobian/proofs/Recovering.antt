@@ -40,7 +40,7 @@ module _ (s : Columns) (i : ℕ) (rest : List ℕ) (c : ℕ) where
       by false e = ap (λ z. has (cond z (i ∷ rest) rest) c) e ∙ h
 
 -- those in the list are in the set and within the range
-listed_in : (s : Columns) (i n c : ℕ) → has (filter s (from i n)) c ≡ true → (s c ≡ true) × (c < i + n)
+pub listed_in : (s : Columns) (i n c : ℕ) → has (filter s (from i n)) c ≡ true → (s c ≡ true) × (c < i + n)
 listed_in s i zero c h = cc
 listed_in s i (suc n) c h = by (split_listed s i (filter s (from (suc i) n)) c h) (listed_in s (suc i) n c)
   where
@@ -66,7 +66,7 @@ within_groups (k ∷ ks) g zero h = omega arith
 within_groups (k ∷ ks) g (suc c) h = let q = within_groups ks g c h in omega (arith, q)
 
 -- a row is one of some rows
-Among : Row → List Row → Type 0
+pub Among : Row → List Row → Type 0
 Among r [] = ⊥
 Among r (q ∷ rs) = (q ≡ r) ⊎ Among r rs
 
@@ -87,13 +87,13 @@ row_alike : (f g : Place → ℕ → ℤ) (i : ℕ) (a : Place) (cs : List ℕ) 
 row_alike f g i a [] e = refl
 row_alike f g i a (c ∷ cs) e = ap₂ (λ v es. record { row = i; col = c; value = v } ∷ es) (e c (or_first (c == c) (has cs c) (eqb_itself c))) (row_alike f g i a cs (λ d h. e d (or_second (d == c) (has cs d) h)))
 
-entries_alike : (f g : Place → ℕ → ℤ) (rows : List Row) (i : ℕ) → ((r : Row) → Among r rows → (c : ℕ) → has r.columns c ≡ true → f r.at c ≡ g r.at c) → entries f rows i ≡ entries g rows i
+pub entries_alike : (f g : Place → ℕ → ℤ) (rows : List Row) (i : ℕ) → ((r : Row) → Among r rows → (c : ℕ) → has r.columns c ≡ true → f r.at c ≡ g r.at c) → entries f rows i ≡ entries g rows i
 unfolding Among
 entries_alike f g [] i e = refl
 entries_alike f g (r ∷ rs) i e = ap₂ (λ y z. y ++ z) (row_alike f g i r.at r.columns (e r (inl refl))) (entries_alike f g rs (suc i) (λ q m. e q (inr m)))
 
 -- the columns of each row are those that the run gives its cell
-columns_of_row : (out : Output (ℤ × Columns)) (n : ℕ) (cells : List Place) (r : Row) → Among r (rows_at out n cells) → r.columns ≡ listed (columns_at out r.at) n
+pub columns_of_row : (out : Output (ℤ × Columns)) (n : ℕ) (cells : List Place) (r : Row) → Among r (rows_at out n cells) → r.columns ≡ listed (columns_at out r.at) n
 unfolding Among
 columns_of_row out n [] r m = absurd m
 columns_of_row out n (a ∷ others) r (inl e) = ap (λ (z : Row). z.columns) (sym e) ∙ ap (λ (z : Row). listed (columns_at out z.at) n) e

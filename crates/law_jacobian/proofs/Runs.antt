@@ -240,7 +240,7 @@ module _ (inside : Columns) where
   part_power s zero c = refl
   part_power s (suc k) c = refl
 
-  part_does : Projects (in_part inside) marked marked
+  pub part_does : Projects (in_part inside) marked marked
   part_does = record {
     of_word = λ z. refl;
     shown = λ a. refl;

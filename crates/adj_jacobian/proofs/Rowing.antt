@@ -1,0 +1,95 @@
+-- Rows of a pattern, block by block.
+use Rattle.std.proofs.Common.{◌≡◌, ℕ, zero, suc, ◌+◌, ◌-◌, ◌*◌, ◌/◌, ◌<◌, ◌≤◌, min, Bool, true, false, List, [], ◌∷◌, ◌++◌, map, length, filter, refl, sym, ap, ap₂, ◌∙◌, eq-eqb, arith}
+use Rattle.std.specs.Prelude.{ℤ, ◌==◌, ◌&&◌}
+use Rattle.std.proofs.lemmas.List.{length-map}
+use Rattle.def_meaning.specs.Scene.{Outcome, Done, Trapped, More, Full}
+use Rattle.def_meaning.specs.Units.{Slot, Output}
+use Rattle.def_jacobian.specs.Columns.{Columns}
+use Rattle.def_jacobian.specs.Patterns.{Task, Place, held, columns_at}
+use Rattle.def_jacobian.specs.Recovered.{from, Row, listed, places, rows_at}
+use Rattle.adj_jacobian_block.specs.declared.block.Block.{Block}
+use Rattle.adj_jacobian_block.specs.Blocks.{blocks, columns_of, inside_block}
+use Rattle.adj_jacobian_groups.specs.declared.sparsity.Sparsity.{Sparsity}
+use Rattle.adj_jacobian_groups.specs.View.{place_of, rows_of}
+use Rattle.adj_jacobian.specs.Parts.{columns_from, width_of, with_block, bare}
+use Rattle.adj_jacobian.specs.Ends.{IsPart, RowsOf, IsPattern, PatternOf}
+use Rattle.adj_jacobian.proofs.Ranges.{filter_parts, filter_alike, and_true}
+
+-- a row with the columns of one block more
+row_more : (s : Columns) (k w : ℕ) (mask : List ℕ) → w ≤ 256 → ((c : ℕ) → columns_of k mask c ≡ (s c && inside_block k c)) → listed s (256 * k) ++ columns_from k mask (256 * k) w ≡ listed s (256 * k + w)
+row_more s k w mask h part =
+    ap (λ cs. listed s (256 * k) ++ cs) (filter_alike (columns_of k mask) s (256 * k) w told ∙ ap (λ j. filter s (from j w)) (let e : 256 * k ≡ 0 + 256 * k = omega arith in e))
+    ∙ sym (filter_parts s 0 (256 * k) w)
+  where
+    told : (c : ℕ) → 256 * k ≤ c → c < 256 * k + w → columns_of k mask c ≡ s c
+    told c le lt = part c ∙ and_true (s c) (inside_block k c) (eq-eqb (c / 256) k (omega (arith, le, lt, h)))
+
+width_within : (k total : ℕ) → width_of k total ≤ 256
+width_within k total = omega arith
+
+pub rows_more : (k total used : ℕ) (out : Output (ℤ × Columns)) (slots : List (Slot Block)) → IsPart k (Done out used) slots → (cells : List Place) →
+    map (with_block k total slots) (rows_at out (256 * k) cells) ≡ rows_at out (256 * k + width_of k total) cells
+rows_more k total used out slots part [] = refl
+rows_more k total used out slots part (a ∷ others) =
+    ap₂ (λ cs rs. record { at = a; columns = cs } ∷ rs)
+    (row_more (columns_at out a) k (width_of k total) (held blocks slots a.dummy a.cell).columns (width_within k total) (part a))
+    (rows_more k total used out slots part others)
+
+-- rows with a block's columns are those of one block more
+pub rows_told : (k total : ℕ) (q : Outcome (Output (ℤ × Columns))) (slots : List (Slot Block)) (rows new : List Row) → IsPart k q slots → new ≡ map (with_block k total slots) rows → RowsOf k total rows q new
+rows_told k total (Done out used) slots rows new part e = λ cells h. e ∙ ap (map (with_block k total slots)) h ∙ rows_more k total used out slots part cells
+rows_told k total (Trapped t line w) slots rows new part e = absurd part
+rows_told k total (More w) slots rows new part e = absurd part
+rows_told k total (Full w) slots rows new part e = absurd part
+
+-- ---- the rows so far
+
+-- after some blocks the rows have the columns of these; a run that isn't done ended in the first
+abbrev pub BuiltSo : ℕ → ℕ → List Place → Outcome (Output (ℤ × Columns)) → List Row → Type 0
+BuiltSo k total cells (Done out used) rows = rows ≡ rows_at out (min total (256 * k)) cells
+BuiltSo k total cells (Trapped t line w) rows = k ≡ 0
+BuiltSo k total cells (More w) rows = k ≡ 0
+BuiltSo k total cells (Full w) rows = k ≡ 0
+
+bare_rows : (out : Output (ℤ × Columns)) (cells : List Place) → bare cells ≡ rows_at out 0 cells
+bare_rows out [] = refl
+bare_rows out (a ∷ others) = ap (λ rs. record { at = a; columns = [] } ∷ rs) (bare_rows out others)
+
+pub built_first : (total : ℕ) (cells : List Place) (q : Outcome (Output (ℤ × Columns))) (rows : List Row) → rows ≡ bare cells → BuiltSo 0 total cells q rows
+built_first total cells (Done out used) rows e = e ∙ bare_rows out cells ∙ ap (λ n. rows_at out n cells) (let z : 0 ≡ min total (256 * 0) = omega arith in z)
+built_first total cells (Trapped t line w) rows e = refl
+built_first total cells (More w) rows e = refl
+built_first total cells (Full w) rows e = refl
+
+pub built_next : (k total : ℕ) (cells : List Place) (q : Outcome (Output (ℤ × Columns))) (rows new : List Row) → 256 * k ≤ total → BuiltSo k total cells q rows → RowsOf k total rows q new → BuiltSo (k + 1) total cells q new
+built_next k total cells (Done out used) rows new h so_far more =
+    more cells (so_far ∙ ap (λ n. rows_at out n cells) (let e : min total (256 * k) ≡ 256 * k = omega (arith, h) in e))
+    ∙ ap (λ n. rows_at out n cells) (let e : 256 * k + width_of k total ≡ min total (256 * (k + 1)) = omega (arith, h) in e)
+built_next k total cells (Trapped t line w) rows new h so_far more = absurd more
+built_next k total cells (More w) rows new h so_far more = absurd more
+built_next k total cells (Full w) rows new h so_far more = absurd more
+
+-- all rows of a run that is done
+abbrev pub WholeRows : ℕ → List Place → Outcome (Output (ℤ × Columns)) → List Row → Type 0
+WholeRows total cells (Done out used) rows = rows ≡ rows_at out total cells
+WholeRows total cells (Trapped t line w) rows = ⊥
+WholeRows total cells (More w) rows = ⊥
+WholeRows total cells (Full w) rows = ⊥
+
+-- after all blocks, one at least
+pub built_whole : (k total : ℕ) (cells : List Place) (q : Outcome (Output (ℤ × Columns))) (rows : List Row) → 0 < k → total ≤ 256 * k → BuiltSo k total cells q rows → WholeRows total cells q rows
+built_whole k total cells (Done out used) rows some all so_far = so_far ∙ ap (λ n. rows_at out n cells) (let e : min total (256 * k) ≡ total = omega (arith, all) in e)
+built_whole k total cells (Trapped t line w) rows some all so_far = absurd (omega (arith, some, so_far))
+built_whole k total cells (More w) rows some all so_far = absurd (omega (arith, some, so_far))
+built_whole k total cells (Full w) rows some all so_far = absurd (omega (arith, some, so_far))
+
+-- the pattern, put together from its columns and its rows
+pub pattern_whole : (p : Task) (outvars : List Bool) (q : Outcome (Output (ℤ × Columns))) (s : Sparsity) (total : ℕ) → map place_of s.cols ≡ places p.vars p.input 0 → total ≡ length s.cols →
+    WholeRows total (places outvars p.input 0) q (rows_of s.rows) → PatternOf p outvars q s
+pattern_whole p outvars (Done out used) s total columns many rows = record {
+  columns = columns;
+  rows = rows ∙ ap (λ n. rows_at out n (places outvars p.input 0)) (many ∙ sym (length-map s.cols place_of) ∙ ap length columns);
+}
+pattern_whole p outvars (Trapped t line w) s total columns many rows = absurd rows
+pattern_whole p outvars (More w) s total columns many rows = absurd rows
+pattern_whole p outvars (Full w) s total columns many rows = absurd rows
