@@ -23,7 +23,7 @@ use Rattle.def_kernel.specs.Kernel.{EachUnit}
 use Rattle.def_kernel.specs.Weights.{WeighsAtMost}
 use Rattle.def_kernel.specs.Stepped.{kernel_of}
 use Rattle.law_kernel.specs.Sound.{IsAccepted}
-use Rattle.def_adjoint.specs.Adjoint.{IsAdjointOfWith}
+use Rattle.def_adjoint.specs.Adjoint.{IsAdjointOf}
 use Rattle.law_emitted.proofs.Kernels.{kernel_checked, found_name, becomes}
 use Rattle.law_shape.proofs.Accepted.{accepted_has_shape}
 use Rattle.law_analysed.proofs.Lending.{exact_shadows}
@@ -72,7 +72,7 @@ module _ (ps : List Procedure) (name : List ℕ) (h : Head) (accepted : IsAccept
       subst (λ z. OrTooMany (λ found. unlined found ≡ unlined z) (program_of Run (text_of z))) (sym x.emitted) (runnable bytes ps given accepted few m (λ i. refl) shadows (unit_number (kernel_of ps) name) h.vars h.outvars)
 
   module _ (apart : AreLinesApart (program_lines ps)) (u : Procedure) (found : find_unit ps name ≡ Some u) where
-    pub adjoins : (others : List Procedure) → unlined qs ≡ unlined others → IsAdjointOfWith true (lines_by ps m) m ps name h.vars h.outvars others
+    pub adjoins : (others : List Procedure) → unlined qs ≡ unlined others → IsAdjointOf (lines_by ps m) m ps name h.vars h.outvars others
     adjoins others same =
         let x = known.emitted in
         planned.is_reversed ps accepted apart name u found h.vars h.outvars x.activity x.liveness x.saved x.held x.analysed others (ap unlined (sym x.emitted) ∙ same)
@@ -120,7 +120,7 @@ module _ (ps : List Procedure) (name : List ℕ) (h : Head) (accepted : IsAccept
 
     -- both sides, and what holds of them
     module _ (runnable : IsRunnable qs) where
-      abbrev back : IsAdjointOfWith true (lines_by ps m) m ps name h.vars h.outvars (read_back qs)
+      abbrev back : IsAdjointOf (lines_by ps m) m ps name h.vars h.outvars (read_back qs)
       back = adjoins (read_back qs) (alike_read qs runnable)
 
       abbrev sides : Sides

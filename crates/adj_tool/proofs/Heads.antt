@@ -28,11 +28,12 @@ use Rattle.def_names.specs.StatementsIn.{statements_in}
 use Rattle.law_analysed.specs.MarkedLines.{program_lines, AreLinesApart}
 use Rattle.law_planned.proofs.ReadLines.{read_apart}
 use Rattle.law_emitted.specs.Shadowed.{AllHaveShadows}
+use Rattle.def_kernel.specs.Form.{IsKernel}
 use Rattle.def_kernel.specs.Kernel.{EachUnit}
 use Rattle.def_kernel.specs.Weights.{WeighsAtMost}
 use Rattle.def_kernel.specs.Stepped.{kernel_of}
 use Rattle.law_kernel.specs.Sound.{IsAccepted}
-use Rattle.def_adjoint.specs.Adjoint.{IsAdjointOfWith}
+use Rattle.def_adjoint.specs.Adjoint.{IsAdjointOf}
 use Rattle.law_emitted.proofs.Kernels.{kernel_checked, head_within}
 use Rattle.law_analysed.proofs.Lending.{exact_shadows}
 use Rattle.def_text.specs.OrTooMany.{OrTooMany}
@@ -49,7 +50,6 @@ use Rattle.law_shape.proofs.Accepted.{accepted_has_shape}
 use Rattle.adj_tool.specs.Planned.{IsEmittedFor, AreExact, IsAdjointText, IsTextFor}
 use Rattle.adj_tool.specs.declared.task.Wanted.{Wanted}
 use Rattle.adj_tool.specs.declared.task.Wanted.TheVariants as wanted
-use Rattle.adj_weave.specs.Shared.{IsCheckedBySome}
 use Rattle.adj_tool.specs.Arguments.{Request}
 use Rattle.adj_tool_answer.specs.Answer.{Answer}
 use Rattle.adj_tool_answer.specs.Laws.{ProgramTold}
@@ -148,8 +148,8 @@ module _ (r : Request) (ps : List Procedure) (h : Head) (sound : first_head_faul
         marks = back.marks;
         exact = subst (λ z. AreExact ps r.head z back.marks) is x;
         is_adjoint =
-            subst (λ n. IsAdjointOfWith true (lines_by ps n) n ps r.head (flags_of r.vars there.unit.dummies) (flags_of r.outvars there.unit.dummies) back.reads.0) (sym x.are)
-            (subst (λ v. IsAdjointOfWith true (lines_by ps m) m ps r.head v (flags_of r.outvars there.unit.dummies) back.reads.0) vars_is (subst (λ v. IsAdjointOfWith true (lines_by ps m) m ps r.head h.vars v back.reads.0) outvars_is
+            subst (λ n. IsAdjointOf (lines_by ps n) n ps r.head (flags_of r.vars there.unit.dummies) (flags_of r.outvars there.unit.dummies) back.reads.0) (sym x.are)
+            (subst (λ v. IsAdjointOf (lines_by ps m) m ps r.head v (flags_of r.outvars there.unit.dummies) back.reads.0) vars_is (subst (λ v. IsAdjointOf (lines_by ps m) m ps r.head h.vars v back.reads.0) outvars_is
             (planned.is_reversed ps accepted (lines_apart bytes ps few reads) r.head there.unit there.found h.vars h.outvars x.activity x.liveness x.saved x.held x.analysed back.reads.0 same)));
         own_names = own_names ps accepted back.marks;
         shape =
@@ -178,9 +178,9 @@ module _ (ps : List Procedure) (p : Program) (lowered : procedures_of p ≡ kern
       subst (λ k. k < length p.units) (sym (e ∙ ap (λ l. unit_number l name) lowered))
       (subst (λ k. unit_number (kernel_of ps) name < k) (ap length (sym lowered) ∙ length-map p.units procedure_of) (head_within ps name u.unit u.found))
 
-  -- it is checked
-  pub kernel_is_checked : IsAccepted ps → IsCheckedBySome (procedures_of p)
-  kernel_is_checked a = subst IsCheckedBySome (sym lowered) (record { rules = run_rules; checked = kernel_checked ps a })
+  -- it is in kernel form
+  pub in_kernel_form : IsAccepted ps → IsKernel (procedures_of p)
+  in_kernel_form a = subst IsKernel (sym lowered) (kernel_checked ps a).kernel
 
   -- what is said of it with the head's number there is said of the kernel of the program
   pub for_kernel : (P : List Procedure → Head → Type 0) (name : List ℕ) (n : ℕ) → n ≡ unit_number (procedures_of p) name → (vars outvars : List Bool) → P (procedures_of p) (record { unit = n; vars = vars; outvars = outvars }) → P (kernel_of ps) (record { unit = unit_number (kernel_of ps) name; vars = vars; outvars = outvars })

@@ -85,6 +85,8 @@ pub data Command : Type 0 where
   Check : Asked → List (List ℕ) → List (List ℕ) → Command
   -- steps and snapshots
   Schedule : ℕ → ℕ → Command
+  -- a run whose derivative is asked for, and the independents and the dependents of its head
+  Jacobian : Asked → List (List ℕ) → List (List ℕ) → Command
   -- the number of a sample
   Sample : ℕ → Command
 
@@ -139,6 +141,17 @@ check_asked rows =
     then with_lists (limits_asked rows) (option_and_then names_of (first_of (codes "vars") rows)) (option_and_then names_of (first_of (codes "outvars") rows))
     else None
 
+abbrev pub with_columns : Option Asked → Option (List Text) → Option (List Text) → Option Command
+with_columns (Some r) (Some vars) (Some outvars) = Some (Jacobian r vars outvars)
+with_columns _ _ _ = None
+
+-- jacobian with --head NAME, --vars LIST, --outvars LIST, and at most 100000000 statements for each run or --budget N
+abbrev pub jacobian_asked : List Row → Option Command
+jacobian_asked rows =
+    if lacks (codes "numbers" ∷ codes "tape" ∷ []) rows
+    then with_columns (limits_asked rows) (option_and_then names_of (first_of (codes "vars") rows)) (option_and_then names_of (first_of (codes "outvars") rows))
+    else None
+
 -- steps and snapshots
 abbrev pub two_numbers : Option ℕ → Option ℕ → Option Command
 two_numbers (Some l) (Some s) = Some (Schedule l s)
@@ -174,9 +187,10 @@ command_asked name rows =
     else (if bytes_eq name (codes "plan") then plan_asked rows
     else (if bytes_eq name (codes "run") then run_asked rows
     else (if bytes_eq name (codes "check") then check_asked rows
+    else (if bytes_eq name (codes "jacobian") then jacobian_asked rows
     else (if bytes_eq name (codes "schedule") then schedule_asked rows
     else (if bytes_eq name (codes "sample") then sample_asked rows
-    else None)))))
+    else None))))))
 
 abbrev pub asked : List Row → Option Command
 asked rows = option_and_then (λ name. command_asked name rows) (first_of (codes "command") rows)

@@ -20,7 +20,7 @@ use Rattle.def_adjoint.specs.CallsAtMost.{CallsAtMost}
 use Rattle.def_adjoint.specs.Calls.{CallsWithin}
 use Rattle.def_adjoint.specs.Spends.{SpendsAtMost}
 use Rattle.def_adjoint.specs.KernelSpends.{HaveVariables, KernelSpendsAtMost, KernelSpendsWithin}
-use Rattle.def_adjoint.specs.Adjoint.{HaveOwnNames, IsAdjointOfWith}
+use Rattle.def_adjoint.specs.Adjoint.{HaveOwnNames, IsAdjointOf}
 use Rattle.def_planned.specs.Planned.{HasNoMarks, lines_by, reversed_for}
 use Rattle.def_adjoint.specs.KernelShape.{HasKernelShape}
 use Rattle.adj_tool_answer.specs.Answer.{Answer, refused, too_long}
@@ -57,7 +57,7 @@ pub record AreSides (ps : List Procedure) (name : List ℕ) (h : Head) (p : Side
 -- What is run as the emitted program is an adjoint of the program for the unit of a name as its head, in which marked loops are reversed by schedules, and looks as one that is emitted. Where no loop is marked, its run takes at most so many statements for each one of the head's own run, by
 -- what a statement of the program weighs and how many calls a chain from the head has.
 pub record RunsAdjoint (m : ProgramMarks) (ps : List Procedure) (name : List ℕ) (vars outvars : List Bool) (qs : List Procedure) : Type 0 where
-  pub adjoins : IsAdjointOfWith true (lines_by ps m) m ps name vars outvars qs
+  pub adjoins : IsAdjointOf (lines_by ps m) m ps name vars outvars qs
   pub own_names : HaveOwnNames (lines_by ps m)
   pub shape : HasKernelShape true m ps name vars outvars qs
   pub spends : HasNoMarks ps → (weight calls : ℕ) → EachUnit (λ u. WeighsAtMost weight u.body) ps → CallsAtMost ps name calls → SpendsAtMost m ps name weight calls qs

@@ -18,7 +18,7 @@ use Rattle.def_adjoint.specs.CallsAtMost.{CallsAtMost}
 use Rattle.def_adjoint.specs.Calls.{CallsWithin}
 use Rattle.def_adjoint.specs.Spends.{SpendsAtMost}
 use Rattle.def_adjoint.specs.KernelSpends.{HaveVariables, KernelSpendsAtMost, KernelSpendsWithin}
-use Rattle.def_adjoint.specs.Adjoint.{HaveOwnNames, IsAdjointOfWith}
+use Rattle.def_adjoint.specs.Adjoint.{HaveOwnNames, IsAdjointOf}
 use Rattle.def_planned.specs.Planned.{HasNoMarks, lines_by, reversed_for}
 use Rattle.def_adjoint.specs.KernelShape.{HasKernelShape}
 use Rattle.adj_tree.specs.declared.marks.Head.{Head}
@@ -58,7 +58,7 @@ pub record WritesAdjoint (r : Request) (bytes written : List ℕ) : Type 0 where
   pub marks : ProgramMarks
   pub exact : AreExact source r.head (head_of source r.head r.vars r.outvars) marks
   -- the marked loops that it reverses by schedules are those whose step call is adjointed, and their step units have other names than their adjoints
-  pub is_adjoint : IsAdjointOfWith true (lines_by source marks) marks source r.head (flags_of r.vars unit.dummies) (flags_of r.outvars unit.dummies) adjoint
+  pub is_adjoint : IsAdjointOf (lines_by source marks) marks source r.head (flags_of r.vars unit.dummies) (flags_of r.outvars unit.dummies) adjoint
   pub own_names : HaveOwnNames (lines_by source marks)
   -- it has the units, and each of its adjoint units keeps, saves, pushes and sets what these marks say
   pub shape : HasKernelShape true marks source r.head (flags_of r.vars unit.dummies) (flags_of r.outvars unit.dummies) adjoint

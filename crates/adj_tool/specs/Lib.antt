@@ -8,3 +8,4 @@ pub mod Check
 pub mod Sample
 pub mod Views
 pub mod Tool
+pub mod Complete

@@ -1,16 +1,23 @@
 -- Tool: what a call of the program comes to.
-use Rattle.std.specs.Prelude.{◌≡◌, ◌⊎◌, ◌+◌, ◌<◌, ℕ, List, length, take, Option, Some, None}
-use Rattle.adj_io.specs.Bytes.{IsAtEnd, extended_by, followed_by}
+use Rattle.std.specs.Prelude.{◌≡◌, ◌⊎◌, ◌+◌, ◌<◌, ◌≤◌, ℕ, List, length, take, Option, Some, None}
+use Rattle.adj_io.specs.Bytes.{HasRead, IsAtEnd, extended_by, followed_by}
 use Rattle.adj_tool_answer.specs.Answer.{Answer, usage}
 use Rattle.adj_tool_run.specs.Running as running
 use Rattle.adj_tool_answer.specs.Endings.{Asked}
 use Rattle.adj_tool_run.specs.Running.{AnswersRun}
-use Rattle.adj_tool.specs.Arguments.{Command, Request, Adjoint, Plan, Run, Check, Schedule, Sample}
+use Rattle.adj_tool_jacobian.specs.Jacobian as jacobian
+use Rattle.adj_tool_jacobian.specs.Jacobian.{AnswersJacobian}
+use Rattle.adj_tool.specs.Arguments.{Command, Request, Adjoint, Plan, Run, Check, Jacobian, Schedule, Sample}
 use Rattle.adj_tool.specs.Headline.{WritesAdjoint}
 use Rattle.adj_tool.specs.Check.{AnswersCheck, ChecksAdjoint}
 use Rattle.adj_tool.specs.Sample.{AnswersSample, SamplesAdjoint}
 use Rattle.adj_tool.specs.Answer.{schedule_answer, AnswersWanted, most_bytes}
 use Rattle.adj_tool.specs.declared.task.Wanted.TheVariants as wanted
+
+-- what was read of an input: all its bytes, where these are at most so many, or one byte more than that
+abbrev pub IsInput : ℕ → Option (List ℕ) → Option (List ℕ) → Option (List ℕ) → Type 0
+IsInput most before after (Some bytes) = (before ≡ followed_by bytes after) × (IsAtEnd after × (length bytes ≤ most))
+IsInput most before after None = HasRead (most + 1) before after
 
 -- the answer to an input of at most so many bytes, of which some were read: it was read to its end, or one byte more than the limit was
 pub record AnswersInput (most : ℕ) (Answers : List ℕ → Answer → Type 0) (before after : Option (List ℕ)) (a : Answer) : Type 0 where
@@ -28,6 +35,7 @@ IsAnswer (Some (Adjoint r)) before after a = AnswersInput most_bytes (AnswersWan
 IsAnswer (Some (Plan r)) before after a = AnswersInput most_bytes (AnswersWanted wanted.Plan r) before after a
 IsAnswer (Some (Run r)) before after a = AnswersInput running.most_bytes (AnswersRun r) before after a
 IsAnswer (Some (Check r vars outvars)) before after a = AnswersInput most_bytes (AnswersCheck r vars outvars) before after a
+IsAnswer (Some (Jacobian r vars outvars)) before after a = AnswersInput jacobian.most_bytes (AnswersJacobian r vars outvars) before after a
 
 -- the arguments ask for a command that reads
 abbrev pub ReadsInput : Option Command → Type 0
@@ -35,6 +43,7 @@ ReadsInput (Some (Adjoint r)) = Unit {0}
 ReadsInput (Some (Plan r)) = Unit {0}
 ReadsInput (Some (Run r)) = Unit {0}
 ReadsInput (Some (Check r vars outvars)) = Unit {0}
+ReadsInput (Some (Jacobian r vars outvars)) = Unit {0}
 ReadsInput (Some (Schedule l s)) = ⊥
 ReadsInput (Some (Sample n)) = ⊥
 ReadsInput None = ⊥

@@ -18,5 +18,6 @@ command_of (task.Adjoint r) = arguments.Adjoint (request_of r)
 command_of (task.Plan r) = arguments.Plan (request_of r)
 command_of (task.Run r) = arguments.Run (asked_of r)
 command_of (task.Check r) = arguments.Check (asked_of r.run) r.vars r.outvars
+command_of (task.Jacobian r) = arguments.Jacobian (asked_of r.run) r.vars r.outvars
 command_of (task.Schedule r) = arguments.Schedule r.steps r.snapshots
 command_of (task.Sample n) = arguments.Sample n

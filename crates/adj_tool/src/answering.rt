@@ -148,7 +148,17 @@ pub(crate) fn answer_program(
     }
 }
 
-/// The answer to an input within the limit.
+/// The answer to an input within the limit. Here the way of a text begins:
+///
+/// 1. `read` (adj_tool_answer) makes lines, statements and trees of the bytes: a `Program`, or the first fault of the text.
+/// 2. `check` (adj_symbols) makes it a `Checked`: its names, calls, chains and writes have no fault.
+/// 3. `head` (adj_symbols) finds the unit that is asked for, with its independents and its dependents.
+/// 4. `checked_kernel` (adj_norm) writes the kernel, and checks it: one more `Checked`. The program is let go.
+/// 5. `plan` (adj_plan) analyses the kernel: its flow, and the marks of activity, liveness and of values to be recorded.
+/// 6. `adjoint` (adj_weave, here `emit`) writes the program of the adjoint by these marks. The marks and the kernel are let go.
+/// 7. `text` (adj_print) lays it out. The command `plan` ends with `plan_text` (adj_plan) in place of 6 and 7.
+///
+/// In this crate `answer_wanted` does 1, `answer_program` 2, `answer_checked` 3, `written` 4, and `text_wanted` 5 to 7, with a clause each.
 pub(crate) fn answer_wanted(
     alloc: Global,
     wanted: Wanted,

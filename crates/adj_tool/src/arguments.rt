@@ -1,7 +1,7 @@
 //! The arguments of a command, as `clap` reads them.
 
 ghost use Rattle.std.specs.Prelude.{◌≡◌, ◌≤◌, false, not, is_some, ℕ, List, ◌∷◌, IfOk, IfSome, Option, option_map, option_and_then, map, codes};
-ghost use Rattle.adj_tool.specs.Arguments.{bare_program, program, command_rule, numbers_rule, option_rule, lacks, name_of, names_of, request_asked, adjoint_asked, plan_asked, number_or, limits_asked, run_asked, check_asked, lacks_options, schedule_asked, numbers_asked, sample_asked, number_asked, command_asked, asked, taken};
+ghost use Rattle.adj_tool.specs.Arguments.{bare_program, program, command_rule, numbers_rule, option_rule, lacks, name_of, names_of, request_asked, adjoint_asked, plan_asked, number_or, limits_asked, run_asked, check_asked, jacobian_asked, lacks_options, schedule_asked, numbers_asked, sample_asked, number_asked, command_asked, asked, taken};
 ghost use Rattle.adj_tool_answer.specs.EndingViews.{asked_of};
 ghost use Rattle.adj_tool.specs.Views.{command_of, some_request};
 ghost use Rattle.clap.specs.Simple.{app_of, with_rule};
@@ -224,6 +224,27 @@ fn check_task(alloc: Global, matches: &ArgMatches<'_>) -> Result<Option<Task>, M
     }
 }
 
+// jacobian with these, --head NAME, --vars LIST and --outvars LIST, with --budget N or not
+fn jacobian_task(alloc: Global, matches: &ArgMatches<'_>) -> Result<Option<Task>, Memory>
+    ensures { IfOk result (λ r. option_map command_of r ≡ jacobian_asked (rows_of (found_of matches.now))) }
+{
+    let lacks = is_absent(matches, "numbers") && is_absent(matches, "tape");
+    if !lacks {
+        return Ok(None);
+    }
+    let run = limits_asked(alloc, matches)?;
+    let vars = list_option(alloc, matches, "vars")?;
+    let outvars = list_option(alloc, matches, "outvars")?;
+    match (run, vars, outvars) {
+        (Some(run), Some(vars), Some(outvars)) => Ok(Some(Task::Jacobian(CheckRequest {
+            run,
+            vars,
+            outvars,
+        }))),
+        _ => Ok(None),
+    }
+}
+
 fn schedule_numbers(numbers: &[&str]) -> Option<Task>
     ensures { option_map command_of result ≡ numbers_asked (map (λ v. v.now) numbers.now) }
 {
@@ -305,6 +326,10 @@ fn task_asked(alloc: Global, matches: &ArgMatches<'_>) -> Result<Option<Task>, M
     }
     if name == "check" {
         let task = check_task(alloc, matches)?;
+        return Ok(task);
+    }
+    if name == "jacobian" {
+        let task = jacobian_task(alloc, matches)?;
         return Ok(task);
     }
     if name == "schedule" {

@@ -17,21 +17,19 @@ ghost use Rattle.adj_tool.specs.Check.{AnswersAcceptedCheck, AnswersCheck, Answe
 ghost use Rattle.adj_tool.specs.Tool.{AnswersInput, ComparesInput};
 
 use crate::answering::{too_large, unit_number};
+use crate::input::{MOST_BYTES, input_bytes, too_long};
 use crate::planned::known;
 use crate::stop::Stop;
 use crate::task::CheckRequest;
 use adj_fixed::Mode;
-use adj_io::{ReadError, Source, read_all};
+use adj_io::Source;
 use adj_norm::checked_kernel;
 use adj_symbols::{Checked, check, head};
 use adj_tool_answer::{Answer, read, reading_law, refused};
 use adj_tool_check::{check_answer, check_law};
-use adj_tree::{Fault, Head, Memory, Program, Refusal};
+use adj_tree::{Fault, Head, Memory, Program};
 use law_limits::emitted_law;
 use std::alloc::Global;
-
-/// The most bytes of an input.
-const MOST_BYTES: usize = 4_194_304;
 
 // The answer where names, calls and writes have no fault, nor has the head.
 fn answer_head(
@@ -140,7 +138,7 @@ pub(crate) fn answer_text(
     ensures compared { IfOk result (λ a. IsCompared (asked_of request.now.run) request.now.vars request.now.outvars bytes.now (answer_of a)) }
 {
     if bytes.len() > MOST_BYTES {
-        refused(alloc, Refusal::passed(4_194_304, 0))
+        too_long(alloc, MOST_BYTES)
     } else {
         answer_bytes(alloc, request, bytes)
     }
@@ -156,16 +154,10 @@ pub(crate) fn check_input<S: Source>(
     ensures compared { IfOk result (λ a. (answer_of a).status ≡ 0 → ComparesInput (asked_of request.now.run) request.now.vars request.now.outvars (S.left input.old) (S.left input.new) a.text.items) }
     ensures fault { IsErrOf result Stop.ReadFault → Rose (S.faults input.old) (S.faults input.new) }
 {
-    match read_all(alloc, input, MOST_BYTES) {
-        Ok(bytes) => {
-            let answer = answer_bytes(alloc, request, bytes.as_slice())?;
-            Ok(answer)
-        }
-        Err(ReadError::TooLong) => {
-            let answer = refused(alloc, Refusal::passed(4_194_304, 0))?;
-            Ok(answer)
-        }
-        Err(ReadError::ReadFault) => Err(Stop::ReadFault),
-        Err(ReadError::Memory) => Err(Stop::Memory),
-    }
+    let Some(bytes) = input_bytes(alloc, input, MOST_BYTES)? else {
+        let answer = too_long(alloc, MOST_BYTES)?;
+        return Ok(answer);
+    };
+    let answer = answer_bytes(alloc, request, bytes.as_slice())?;
+    Ok(answer)
 }

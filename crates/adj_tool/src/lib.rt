@@ -4,6 +4,9 @@
 mod answering;
 mod arguments;
 mod checking;
+mod input;
+mod jacobian;
+mod laws;
 mod planned;
 mod running;
 mod sampling;
@@ -14,5 +17,6 @@ mod text;
 mod top;
 mod values;
 
+pub use laws::completeness_law;
 pub use text::Text;
 pub use top::tool;

@@ -2,12 +2,13 @@
 
 ghost use Rattle.std.specs.Prelude.{◌≡◌, ◌<◌, IfOk, length, true};
 ghost use Rattle.adj_tree.specs.View.{procedures_of};
+ghost use Rattle.def_kernel.specs.Form.{IsKernel};
 ghost use Rattle.def_sweep.specs.Program.{emitted_program_with};
+ghost use Rattle.adj_symbols.specs.Checked.{AreFacts};
 ghost use Rattle.adj_symbols.specs.Numbers.{Fits};
 ghost use Rattle.adj_flow.specs.Asked.{IsFlow, problem_of, units_of};
 ghost use Rattle.adj_plan.specs.Asked.{IsPlan};
 ghost use Rattle.adj_weave.specs.Marked.{marks_told};
-ghost use Rattle.adj_weave.specs.Shared.{IsCheckedBySome};
 ghost use Rattle.adj_tool.specs.Planned.{IsAdjointText, IsEmittedFor, IsKnownFor, IsPlanText, IsTextFor};
 
 use crate::task::Wanted;
@@ -20,6 +21,13 @@ use adj_tree::{Head, Memory, Program};
 use adj_weave::{FoundMarks, Marked, adjoint as emit, head_adjoint};
 use std::alloc::Global;
 
+// What is known of a checked program.
+fn checked_law(checked: &Checked)
+    ensures { AreFacts checked.now }
+{
+    let _program = checked.program();
+}
+
 // The program that is emitted for a kernel by the marks of its plan. Marked loops are reversed by schedules.
 fn emitted(
     alloc: Global,
@@ -28,17 +36,18 @@ fn emitted(
     found: &Planned<'_>,
 ) -> Result<Program, Memory>
     requires head { head.now.unit < length kernel.now.program.units }
-    requires checked { IsCheckedBySome (procedures_of kernel.now.program) }
+    requires kernel { IsKernel (procedures_of kernel.now.program) }
     requires units { units_of found.now.flow ≡ procedures_of kernel.now.program }
     requires flow { IsFlow found.now.flow head.now.unit }
     requires plan { IsPlan found.now.flow (problem_of found.now.flow head.now) found.now.marks }
     ensures emitted { IfOk result (λ p. procedures_of p ≡ emitted_program_with true (marks_told found.now.flow found.now.marks) (procedures_of kernel.now.program) head.now.unit head.now.vars head.now.outvars) }
 {
+    checked_law(kernel);
     let marked = Marked::Found(FoundMarks {
         marks: &found.marks,
         flow: &found.flow,
     });
-    emit(alloc, kernel.program(), head, marked, MarkedLoops::Reversed)
+    emit(alloc, kernel, head, marked, MarkedLoops::Reversed)
 }
 
 // What is emitted for a kernel by the marks of its plan, with what is to be known of the adjoint of its head.
@@ -49,7 +58,7 @@ fn known_by(
     found: &Planned<'_>,
 ) -> Result<Emitted, Memory>
     requires head { head.now.unit < length kernel.now.program.units }
-    requires checked { IsCheckedBySome (procedures_of kernel.now.program) }
+    requires kernel { IsKernel (procedures_of kernel.now.program) }
     requires units { units_of found.now.flow ≡ procedures_of kernel.now.program }
     requires flow { IsFlow found.now.flow head.now.unit }
     requires plan { IsPlan found.now.flow (problem_of found.now.flow head.now) found.now.marks }
@@ -58,7 +67,7 @@ fn known_by(
     let (marks, flow) = (&found.marks, &found.flow);
     let by = Marked::Found(FoundMarks { marks, flow });
     let program = emitted(alloc, kernel, head, found)?;
-    let adjoint = head_adjoint(alloc, kernel.program(), head, by)?;
+    let adjoint = head_adjoint(alloc, kernel, head, by)?;
     Ok(Emitted {
         program,
         adjoint: adjoint.name,
@@ -71,7 +80,7 @@ fn known_by(
 pub(crate) fn known(alloc: Global, kernel: Checked, head: &Head) -> Result<Emitted, Memory>
     requires fits { Fits kernel }
     requires head { head.now.unit < length kernel.program.units }
-    requires checked { IsCheckedBySome (procedures_of kernel.program) }
+    requires kernel { IsKernel (procedures_of kernel.program) }
     ensures known { IfOk result (λ e. IsKnownFor (procedures_of kernel.program) head.now (procedures_of e.program) e.adjoint e.shadowed) }
 {
     let found = plan(alloc, &kernel, head)?;
@@ -82,7 +91,7 @@ pub(crate) fn known(alloc: Global, kernel: Checked, head: &Head) -> Result<Emitt
 fn emitted_for(alloc: Global, kernel: &Checked, head: &Head) -> Result<Program, Memory>
     requires fits { Fits kernel.now }
     requires head { head.now.unit < length kernel.now.program.units }
-    requires checked { IsCheckedBySome (procedures_of kernel.now.program) }
+    requires kernel { IsKernel (procedures_of kernel.now.program) }
     ensures emitted { IfOk result (λ p. IsEmittedFor (procedures_of kernel.now.program) head.now (procedures_of p)) }
 {
     let found = plan(alloc, kernel, head)?;
@@ -94,7 +103,7 @@ fn emitted_for(alloc: Global, kernel: &Checked, head: &Head) -> Result<Program, 
 fn adjoint_text(alloc: Global, kernel: Checked, head: &Head) -> Result<Vec<u8>, Memory>
     requires fits { Fits kernel }
     requires head { head.now.unit < length kernel.program.units }
-    requires checked { IsCheckedBySome (procedures_of kernel.program) }
+    requires kernel { IsKernel (procedures_of kernel.program) }
     ensures text { IfOk result (λ v. IsAdjointText (procedures_of kernel.program) head.now v.items) }
 {
     let program = emitted_for(alloc, &kernel, head)?;
@@ -129,7 +138,7 @@ pub(crate) fn text_wanted(
 ) -> Result<Vec<u8>, Memory>
     requires fits { Fits kernel }
     requires head { head.now.unit < length kernel.program.units }
-    requires checked { IsCheckedBySome (procedures_of kernel.program) }
+    requires kernel { IsKernel (procedures_of kernel.program) }
     ensures text { IfOk result (λ v. IsTextFor wanted (procedures_of kernel.program) head.now v.items) }
 {
     match wanted {

@@ -49,6 +49,8 @@ pub enum Task {
     Run(RunRequest),
     /// Run a unit, its dual run and its adjoint on data, and compare.
     Check(CheckRequest),
+    /// Find the derivative of a unit on data, and write its entries.
+    Jacobian(CheckRequest),
     /// Write the schedule of a reversal.
     Schedule(Reversal),
     /// Check a program that is made from a number.

@@ -11,19 +11,17 @@ ghost use Rattle.adj_tool.specs.Tool.{AdjoinsInput, AnswersInput, IsAdjoinedTo, 
 use crate::answering::answer_wanted;
 use crate::arguments::take;
 use crate::checking::check_input;
+use crate::input::{MOST_BYTES, input_bytes, too_long};
+use crate::jacobian::jacobian_input;
 use crate::running::run_input;
 use crate::sampling::sample_answer;
 use crate::schedule::schedule;
 use crate::stop::Stop;
 use crate::task::{Request, Task, Wanted};
 use crate::text::Text;
-use adj_io::{ReadError, Sink, Source, WriteFault, read_all, write_all};
-use adj_tool_answer::{Answer, refused, usage};
-use adj_tree::Refusal;
+use adj_io::{Sink, Source, WriteFault, write_all};
+use adj_tool_answer::{Answer, usage};
 use std::alloc::Global;
-
-/// The most bytes of an input.
-const MOST_BYTES: usize = 4_194_304;
 
 // The answer to an input of a command that is asked for a head.
 fn answer_input<S: Source>(
@@ -36,18 +34,12 @@ fn answer_input<S: Source>(
     ensures adjoint { wanted ≡ Wanted.Adjoint → IfOk result (λ a. (answer_of a).status ≡ 0 → AdjoinsInput (request_of request.now) (S.left input.old) (S.left input.new) a.text.items) }
     ensures fault { IsErrOf result Stop.ReadFault → Rose (S.faults input.old) (S.faults input.new) }
 {
-    match read_all(alloc, input, MOST_BYTES) {
-        Ok(bytes) => {
-            let answer = answer_wanted(alloc, wanted, request, bytes.as_slice())?;
-            Ok(answer)
-        }
-        Err(ReadError::TooLong) => {
-            let answer = refused(alloc, Refusal::passed(4_194_304, 0))?;
-            Ok(answer)
-        }
-        Err(ReadError::ReadFault) => Err(Stop::ReadFault),
-        Err(ReadError::Memory) => Err(Stop::Memory),
-    }
+    let Some(bytes) = input_bytes(alloc, input, MOST_BYTES)? else {
+        let answer = too_long(alloc, MOST_BYTES)?;
+        return Ok(answer);
+    };
+    let answer = answer_wanted(alloc, wanted, request, bytes.as_slice())?;
+    Ok(answer)
 }
 
 // The answer to the arguments, and to the input where they ask for a command that reads.
@@ -82,6 +74,10 @@ fn answer_arguments<S: Source>(
         }
         Task::Check(request) => {
             let answer = check_input(alloc, &request, input)?;
+            Ok(answer)
+        }
+        Task::Jacobian(request) => {
+            let answer = jacobian_input(alloc, &request, input)?;
             Ok(answer)
         }
         Task::Schedule(reversal) => {

@@ -48,7 +48,7 @@ module _ (p : Sides) (x : IsAdjointSide p) (d : Given) (s : SuitsHead p d) where
   pub balanced : (room : Option ℕ) (k used : ℕ) (out : Output ℤ) → run_unit words p.source p.head d.inputs [] room k ≡ Done out used → Balances p.shadowed p.source p.head p.vars p.outvars p.emitted p.adjoint d.inputs d.adjoints (cells_of d.tangents)
   balanced room k used out e =
       let u = x.adjoins.unit in
-      let b = adjoints_balance true x.lines x.marks p.source x.name p.vars p.outvars p.emitted x.adjoins d.inputs d.adjoints (subst (λ v. fits words v d.inputs ≡ true) x.is_head s.fits) s.adjoints (cells_of d.tangents) s.along room k used out
+      let b = adjoints_balance x.lines x.marks p.source x.name p.vars p.outvars p.emitted x.adjoins d.inputs d.adjoints (subst (λ v. fits words v d.inputs ≡ true) x.is_head s.fits) s.adjoints (cells_of d.tangents) s.along room k used out
       (subst (λ v. run_unit words p.source v d.inputs [] room k ≡ Done out used) x.is_head e) in
       let flags : shadow_flags (x.marks.shadowed x.name) u.dummies ≡ p.shadowed = sym (x.shadows ∙ ap (λ (v : Procedure). shadow_flags (x.marks.shadowed x.name) v.dummies) x.is_head) in
       subst (λ a. Balances p.shadowed p.source p.head p.vars p.outvars p.emitted a d.inputs d.adjoints (cells_of d.tangents)) (sym x.is_adjoint)
@@ -59,7 +59,7 @@ module _ (p : Sides) (x : IsAdjointSide p) (d : Given) (s : SuitsHead p d) where
   advanced : AdjointsAdvance → (room : Option ℕ) (k used used' : ℕ) (out back : Output ℤ) → run_unit words p.source p.head d.inputs [] room k ≡ Done out used →
       run_unit words p.emitted p.adjoint (joined_by p.shadowed d.inputs d.adjoints) [] room k ≡ Done back used' → (log_of back.events).advances ≡ least_costs (runs_in x.lines out.events)
   advanced law room k used used' out back e e' =
-      law true x.lines x.own_names x.marks p.source x.name p.vars p.outvars p.emitted x.adjoins d.inputs d.adjoints (subst (λ v. fits words v d.inputs ≡ true) x.is_head s.fits) s.adjoints room room k k used used' out back
+      law x.lines x.own_names x.marks p.source x.name p.vars p.outvars p.emitted x.adjoins d.inputs d.adjoints (subst (λ v. fits words v d.inputs ≡ true) x.is_head s.fits) s.adjoints room room k k used used' out back
       (subst (λ v. run_unit words p.source v d.inputs [] room k ≡ Done out used) x.is_head e)
       (subst (λ f. run_unit words p.emitted x.adjoins.adjoint (joined_by f d.inputs d.adjoints) [] room k ≡ Done back used') (x.shadows ∙ ap (λ (v : Procedure). shadow_flags (x.marks.shadowed x.name) v.dummies) x.is_head)
       (subst (λ a. run_unit words p.emitted a (joined_by p.shadowed d.inputs d.adjoints) [] room k ≡ Done back used') x.is_adjoint e'))

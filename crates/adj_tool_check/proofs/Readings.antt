@@ -13,7 +13,7 @@ use Rattle.def_names.specs.Fault.{first_of}
 use Rattle.def_names.specs.HeadFaults.{first_head_fault, faults_of_head}
 use Rattle.def_text.specs.OrTooMany.{OrTooMany}
 use Rattle.adj_parse.specs.Trees.{program_of}
-use Rattle.def_adjoint.specs.Adjoint.{IsAdjointOfWith}
+use Rattle.def_adjoint.specs.Adjoint.{IsAdjointOf}
 use Rattle.adj_tool_check.specs.Emitted.{or_itself, read_back, IsRunnable, IsEmittedFor}
 use Rattle.adj_tool_check.specs.Agreeing.{IsAdjointSide}
 use Rattle.adj_tool_check.specs.Ready.{sides_of}
@@ -37,7 +37,7 @@ none_faulty ps name h = go (find_unit ps name) h
 -- ---- sides
 
 module _ (ps : List Procedure) (u : Procedure) (h : Head) (e : Emitted) (found : find_unit ps u.name ≡ Some u) (known : IsEmittedFor ps u.name h.vars h.outvars (procedures_of e.program) e.adjoint e.shadowed) where
-  abbrev back : IsAdjointOfWith true known.lines known.marks ps u.name h.vars h.outvars (read_back (procedures_of e.program))
+  abbrev back : IsAdjointOf known.lines known.marks ps u.name h.vars h.outvars (read_back (procedures_of e.program))
   back = known.adjoins (read_back (procedures_of e.program)) (alike_read (procedures_of e.program) known.runnable)
 
   -- the adjoint of the head is there

@@ -8,7 +8,7 @@ use Rattle.def_meaning.specs.Units.{Output, run_unit}
 use Rattle.def_sweep.specs.MarkedAdjoint.{shadow_flags, joined_by}
 use Rattle.def_sweep.specs.Marking.{ProgramMarks}
 use Rattle.def_sweep.specs.Reversals.{ReversedLines, runs_in}
-use Rattle.def_adjoint.specs.Adjoint.{HaveOwnNames, IsAdjointOfWith}
+use Rattle.def_adjoint.specs.Adjoint.{HaveOwnNames, IsAdjointOf}
 use Rattle.adj_data.specs.Fitting.{IsSized}
 use Rattle.adj_data.specs.Marked.{check_fault}
 use Rattle.def_adjoint.specs.Trapped.{IsTrapped}
@@ -34,7 +34,7 @@ pub record IsAdjointSide (p : Sides) : Type 0 where
   pub own_names : HaveOwnNames lines
   pub marks : ProgramMarks
   pub name : List ℕ
-  pub adjoins : IsAdjointOfWith true lines marks p.source name p.vars p.outvars p.emitted
+  pub adjoins : IsAdjointOf lines marks p.source name p.vars p.outvars p.emitted
   pub is_head : p.head ≡ adjoins.unit
   pub is_adjoint : p.adjoint ≡ adjoins.adjoint
   pub shadows : p.shadowed ≡ shadow_flags (marks.shadowed name) p.head.dummies

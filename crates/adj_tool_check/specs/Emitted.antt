@@ -14,7 +14,7 @@ use Rattle.def_sweep.specs.Names.{adjoint_name}
 use Rattle.def_sweep.specs.Marking.{ProgramMarks}
 use Rattle.def_sweep.specs.Reversals.{ReversedLines}
 use Rattle.def_kernel.specs.Stepped.{kernel_of}
-use Rattle.def_adjoint.specs.Adjoint.{HaveOwnNames, IsAdjointOfWith}
+use Rattle.def_adjoint.specs.Adjoint.{HaveOwnNames, IsAdjointOf}
 use Rattle.def_text.specs.OrTooMany.{OrTooMany}
 use Rattle.adj_parse.specs.Trees.{program_of}
 
@@ -39,6 +39,6 @@ pub record IsEmittedFor (ps : List Procedure) (name : List ℕ) (vars outvars : 
   pub lines : ReversedLines
   pub own_names : HaveOwnNames lines
   pub marks : ProgramMarks
-  pub adjoins : (others : List Procedure) → unlined qs ≡ unlined others → IsAdjointOfWith true lines marks ps name vars outvars others
+  pub adjoins : (others : List Procedure) → unlined qs ≡ unlined others → IsAdjointOf lines marks ps name vars outvars others
   pub named : (k : Procedure) → find_unit (kernel_of ps) name ≡ Some k → adjoint ≡ adjoint_name (kernel_of ps) k
   pub shadows : (u : Procedure) → find_unit ps name ≡ Some u → shadowed ≡ shadow_flags (marks.shadowed name) u.dummies

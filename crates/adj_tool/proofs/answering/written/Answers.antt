@@ -8,7 +8,7 @@ use Rattle.adj_tool_answer.specs.Views.{answer_of}
 use Rattle.adj_tool.specs.Answer.{AnswersFitted}
 use Rattle.adj_tool.specs.Fitting.{kernel_fits}
 use Rattle.adj_tool.specs.Planned.{IsTextFor}
-use Rattle.adj_tool.proofs.Heads.{kernel_head, kernel_is_checked, for_kernel, text_given, text_reads}
+use Rattle.adj_tool.proofs.Heads.{kernel_head, in_kernel_form, for_kernel, text_given, text_reads}
 use Rattle.adj_tool.proofs.answering.written.Goals as goal
 
 pub text_wanted-requires-clause-head : goal.text_wanted-requires-clause-head
@@ -16,8 +16,8 @@ text_wanted-requires-clause-head c =
     kernel_head (procedures_of c.args.program.program) c.in_ok-kernel.kernel.program c.in_ok-kernel.ensures.kernel c.args.name.now c.requires.there c.unit_number-unit.result
     (c.unit_number-unit.ensures ∙ ap (λ q. unit_number (procedures_of q) c.args.name.now) c.program.ensures.program)
 
-pub text_wanted-requires-clause-checked : goal.text_wanted-requires-clause-checked
-text_wanted-requires-clause-checked c = kernel_is_checked (procedures_of c.args.program.program) c.in_ok-kernel.kernel.program c.in_ok-kernel.ensures.kernel c.requires.accepted
+pub text_wanted-requires-clause-kernel : goal.text_wanted-requires-clause-kernel
+text_wanted-requires-clause-kernel c = in_kernel_form (procedures_of c.args.program.program) c.in_ok-kernel.kernel.program c.in_ok-kernel.ensures.kernel c.requires.accepted
 
 pub returns-then-not-fits-clause-answer : goal.returns-then-not-fits-clause-answer
 returns-then-not-fits-clause-answer c =

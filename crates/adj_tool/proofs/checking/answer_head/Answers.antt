@@ -13,7 +13,7 @@ use Rattle.adj_tool.specs.Check.{Fitted, IsChecked}
 use Rattle.adj_tool.specs.Fitting.{kernel_fits}
 use Rattle.adj_tool.specs.Planned.{IsKnownFor}
 use Rattle.adj_tool.proofs.Checks as checks
-use Rattle.adj_tool.proofs.Heads.{lines_apart, head_there, kernel_head, kernel_is_checked, for_kernel, fits_known}
+use Rattle.adj_tool.proofs.Heads.{lines_apart, head_there, kernel_head, in_kernel_form, for_kernel, fits_known}
 use Rattle.adj_tool.proofs.checking.answer_head.Goals as goal
 
 pub checked_kernel-requires : goal.checked_kernel-requires
@@ -29,11 +29,11 @@ known-requires-clause-head c =
     kernel_head ps c.in_ok-kernel.kernel.program lowered r.run.head (head_there ps r.run.head r.vars r.outvars c.requires.sound_head) c.unit_number.result
     (c.unit_number.ensures ∙ ap (λ q. unit_number (procedures_of q) r.run.head) c.program-2.ensures.program)
 
-pub known-requires-clause-checked : goal.known-requires-clause-checked
-known-requires-clause-checked c =
+pub known-requires-clause-kernel : goal.known-requires-clause-kernel
+known-requires-clause-kernel c =
     let ps = procedures_of c.args.program.now.program in
     let lowered = c.in_ok-kernel.ensures.kernel ∙ ap (λ q. kernel_of (procedures_of q)) c.program.ensures.program in
-    kernel_is_checked ps c.in_ok-kernel.kernel.program lowered (record { written = c.program.ensures.facts.written; sound = c.requires.sound })
+    in_kernel_form ps c.in_ok-kernel.kernel.program lowered (record { written = c.program.ensures.facts.written; sound = c.requires.sound })
 
 pub check_answer-requires-clause-there : goal.check_answer-requires-clause-there
 check_answer-requires-clause-there c =

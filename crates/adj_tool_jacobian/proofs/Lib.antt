@@ -1,0 +1,5 @@
+-- the lemmas of the crate
+pub mod Heads
+pub mod Placing
+pub mod Endings
+pub mod Answered
