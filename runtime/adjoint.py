@@ -8,11 +8,13 @@
     print(after["ub"])
 
 A call gives each dummy's value after it, by its name in small letters. What isn't given is 0, arrays in all elements. A scalar is an int. An array is given as a list of its elements in
-storage order, the first subscript varying fastest, and comes back so; or as a NumPy array of its shape, and then a new one comes back. Nothing that is given is changed.
-An argument that no dummy has, a number beyond 64 bits, and an array of another length or shape than its declaration says are refused by a Python exception. What stops a compiled program (docs/RUNNING.md, "Traps")
+storage order, the first subscript varying fastest, or as a NumPy array of its shape and of integers. Where one of the arguments is a NumPy array, all arrays come back as NumPy arrays of their shapes, else as lists.
+Nothing that is given is changed: what comes back is new.
+An argument that no dummy has, a number beyond 64 bits or one that isn't whole, and an array of another length or shape than its declaration says are refused by a Python exception. What stops a compiled program (docs/RUNNING.md, "Traps")
 ends the Python process too, so a model's data should be sound. All calls of a library share one tape: two threads mustn't call it at a time.
 """
 import ctypes
+import operator
 import os
 import re
 
@@ -27,7 +29,8 @@ LEAST, GREATEST = -2 ** 63, 2 ** 63 - 1
 def _statements(text):
     """The statements in capitals and without blanks; comments and data left out."""
     joined = []
-    for line in text.splitlines():
+    for line in text.split("\n"):
+        line = line.rstrip("\r")
         if line[:5].upper() == "$DATA":
             break
         if line[:1] in ("C", "c", "*") or not line[:72].strip(" "):
@@ -55,50 +58,84 @@ class Unit:
         for name in given:
             if name not in self.dummies:
                 raise TypeError(f"{self.name} has no dummy {name}: its dummies are {', '.join(self.dummies)}")
-        places, shaped = {}, {}
-        for name in self.dummies:
-            if name not in self.extents:
-                places[name] = (ctypes.c_int64 * 1)(_word(name, given.get(name, 0)))
+        held = {name: _Word(name, given.get(name, 0)) for name in self.dummies if name not in self.extents}
+        as_numpy = any(_is_numpy(value) for value in given.values())
         for name, extents in self.extents.items():
-            shape = [places[x][0] if x in places else int(x) for x in extents]
-            values, shaped[name] = _elements(name, given.get(name), shape)
-            places[name] = (ctypes.c_int64 * len(values))(*values)
-        self.call(*(places[x] for x in self.dummies))
-        return {name: _given_back(places[name], name in self.extents, shaped.get(name)) for name in self.dummies}
+            shape = [held[x].value() if x in held else int(x) for x in extents]
+            held[name] = (_Shaped if as_numpy else _Elements)(name, given.get(name), shape)
+        self.call(*(held[name].place for name in self.dummies))
+        return {name: held[name].value() for name in self.dummies}
+
+
+class _Word:
+    """A scalar while the unit runs."""
+
+    def __init__(self, name, value):
+        self.place = (ctypes.c_int64 * 1)(_word(name, value))
+
+    def value(self):
+        return self.place[0]
+
+
+class _Elements:
+    """An array while the unit runs, whose elements come back as a list."""
+
+    def __init__(self, name, value, shape):
+        count = _count(name, shape)
+        values = [0] * count if value is None else [_word(name, x) for x in value]
+        if len(values) != count:
+            raise ValueError(f"{name} has {count} elements, not {len(values)}")
+        self.place = (ctypes.c_int64 * count)(*values)
+
+    def value(self):
+        return list(self.place)
+
+
+class _Shaped:
+    """An array while the unit runs, which comes back as a NumPy array."""
+
+    def __init__(self, name, value, shape):
+        if not _is_numpy(value):
+            elements = numpy.array(_Elements(name, value, shape).value(), dtype=numpy.int64)
+            self.array = elements.reshape(shape, order="F")
+        else:
+            _count(name, shape)
+            if list(value.shape) != shape:
+                raise ValueError(f"{name} has the shape {tuple(shape)}, not {value.shape}")
+            if value.dtype.kind not in "iu":
+                raise TypeError(f"{name}: an array of {value.dtype} isn't one of integers")
+            # only these hold numbers that a word doesn't
+            if value.dtype.kind == "u":
+                _word(name, value.max())
+            self.array = numpy.array(value, dtype=numpy.int64, order="F")
+        self.place = self.array.ctypes.data_as(ctypes.POINTER(ctypes.c_int64))
+
+    def value(self):
+        return self.array
+
+
+def _is_numpy(value):
+    return numpy is not None and isinstance(value, numpy.ndarray) and value.ndim > 0
 
 
 def _word(name, value):
-    value = value.__index__()
+    try:
+        value = operator.index(value)
+    except TypeError:
+        raise TypeError(f"{name}: {value!r} is no whole number") from None
     if not LEAST <= value <= GREATEST:
         raise OverflowError(f"{name}: {value} is no number of 64 bits")
     return value
 
 
-def _elements(name, value, shape):
-    """The elements of an array in storage order, and the shape of the NumPy array to give back, if one was given."""
+def _count(name, shape):
+    """How many elements an array of this shape has."""
     count = 1
     for extent in shape:
         if extent < 1:
             raise ValueError(f"{name} has the extent {extent}")
         count *= extent
-    if value is None:
-        return [0] * count, None
-    is_numpy = numpy is not None and isinstance(value, numpy.ndarray)
-    if is_numpy:
-        if list(value.shape) != shape:
-            raise ValueError(f"{name} has the shape {tuple(shape)}, not {value.shape}")
-        value = value.flatten(order="F").tolist()
-    if len(value) != count:
-        raise ValueError(f"{name} has {count} elements, not {len(value)}")
-    return [_word(name, x) for x in value], shape if is_numpy else None
-
-
-def _given_back(place, is_array, shape):
-    if not is_array:
-        return place[0]
-    if shape is None:
-        return list(place)
-    return numpy.array(place, dtype=numpy.int64).reshape(shape, order="F")
+    return count
 
 
 class Library:
@@ -108,8 +145,9 @@ class Library:
         # a name without a folder would be looked for elsewhere
         self._loaded = ctypes.CDLL(os.path.abspath(path))
         for text in texts:
-            with open(text, encoding="latin-1") as file:
-                self._add(file.read())
+            # comments may have any bytes, and a line ends with a line feed alone
+            with open(text, "rb") as file:
+                self._add(file.read().decode("latin-1"))
 
     def _add(self, text):
         unit = None

@@ -5,9 +5,9 @@ The reader here is a helper of these scripts alone: it takes a text that the pro
 import os
 import re
 import subprocess
+import sys
 from dataclasses import dataclass, field
 from pathlib import Path
-
 
 
 def program():
@@ -20,12 +20,18 @@ class Refused(Exception):
     """The program refused the text or the arguments; what it wrote is the message."""
 
 
+def read_input():
+    """The text on standard input, with a character for each byte: comments may have any bytes."""
+    return sys.stdin.buffer.read().decode("latin-1")
+
+
 def answer(command, arguments, text):
     """What the program writes for a command, its arguments and a text."""
-    done = subprocess.run([program(), command, *arguments], input=text, capture_output=True, text=True)
+    done = subprocess.run([program(), command, *arguments], input=text.encode("latin-1"), capture_output=True)
     if done.returncode:
-        raise Refused(done.stdout.strip() or done.stderr.strip() or f"status {done.returncode}")
-    return done.stdout
+        said = (done.stdout or done.stderr).decode("latin-1").strip()
+        raise Refused(said or f"status {done.returncode}")
+    return done.stdout.decode("latin-1")
 
 
 @dataclass
