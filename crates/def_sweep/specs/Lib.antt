@@ -9,6 +9,7 @@ pub mod Tangents
 pub mod MarkedProgram
 pub mod MarkedAdjoint
 pub mod Plan
+pub mod Bindings
 pub mod AdjointOf
 pub mod Rows
 pub mod ReversalCode

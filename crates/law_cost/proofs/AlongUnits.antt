@@ -35,7 +35,8 @@ use Rattle.law_sweep.specs.Environment.{UnitFitsBy}
 use Rattle.law_sweep.specs.Kernel.{FitsListBy, CallFits}
 use Rattle.def_sweep.specs.Callees.{nothing, CalleeFacts, is_plain}
 use Rattle.law_sweep.specs.Laws.{CallLaws, ListLawsBy, last_point}
-use Rattle.law_sweep.specs.Passing.{Bindings, bindings, passed_in, plainly}
+use Rattle.def_sweep.specs.Bindings.{Bindings, bindings}
+use Rattle.law_sweep.specs.Passing.{passed_in, plainly}
 use Rattle.law_sweep.specs.Runs.{SameOn}
 use Rattle.law_sweep.specs.Steps.{ActualsAgree}
 use Rattle.law_sweep.specs.Theorem.{plan_of, ProgramFits, ShapesFit}

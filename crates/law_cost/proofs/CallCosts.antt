@@ -26,7 +26,8 @@ use Rattle.law_sweep.specs.Pairs.{on_words}
 use Rattle.law_sweep.specs.Scenes.{Course, scene}
 use Rattle.def_sweep.specs.Plan.{Callee, actuals_named}
 use Rattle.def_sweep.specs.Rows.{adjoint_call}
-use Rattle.law_sweep.specs.Passing.{Bindings, bindings, actuals_in, passed_in, plainly}
+use Rattle.def_sweep.specs.Bindings.{Bindings, bindings, actuals_in}
+use Rattle.law_sweep.specs.Passing.{passed_in, plainly}
 use Rattle.law_sweep.specs.Runs.{SameOn}
 use Rattle.law_sweep.proofs.Runs.{same_refl}
 use Rattle.law_sweep.proofs.CallDuals.{shadows_bound}

@@ -1,6 +1,6 @@
 -- What both sweeps of a reversed loop take.
 use Rattle.std.proofs.Common.{◌≡◌, ◌≤◌, ◌<◌, ℕ, suc, ◌+◌, ◌*◌, false, List, ◌∷◌, ◌++◌, length, refl, sym, ap, ◌∙◌, subst, arith}
-use Rattle.std.specs.Prelude.{ℤ, pos, Ok, ◌&&◌, ◌||◌, Some}
+use Rattle.std.specs.Prelude.{ℤ, pos, Ok, ◌&&◌, Some}
 use Rattle.adj_tree.specs.Code.{Var, plain, helper, first, stride, count, name_eq, plus, var, bin, none, Mark, assign, unmarked, Act, loop, runtime, push_word, Term, call, Code, stop, step, Procedure}
 use Rattle.adj_tree.proofs.Names.{nat_refl, name_refl}
 use Rattle.adj_word.specs.Word.{wrap, add}
@@ -18,11 +18,10 @@ use Rattle.law_meaning.proofs.Leadings.{leads_stop, leads_append, leads_step}
 use Rattle.def_names.specs.Numbers.{Vars, everything}
 use Rattle.def_names.specs.Numbering.{point_before, point_after}
 use Rattle.def_sweep.specs.Marked.{code_if}
-use Rattle.def_sweep.specs.Facts.{Within, joined, Facts}
+use Rattle.def_sweep.specs.Facts.{joined, Facts}
 use Rattle.def_meaning.specs.Apart.{AreApart}
 use Rattle.law_sweep.specs.Pairs.{Key, Words, on_words}
 use Rattle.law_sweep.specs.Scenes.{Course, scene}
-use Rattle.def_names.proofs.Variables.{or_left, or_right}
 use Rattle.def_sweep.specs.Plan.{Plan, actuals_named, group, save_group, writes_actual}
 use Rattle.def_sweep.specs.Rows.{literal, pushes, pops, set_own, push_own, adjoint_call}
 use Rattle.def_sweep.specs.ReversalCode.{slots_of, set_slots, push_slots, reversed_forward, reversed_backward}
@@ -38,7 +37,7 @@ use Rattle.law_sweep.proofs.Evaluations.{value_again}
 use Rattle.law_sweep.proofs.Snapshots.{KnowsArrays, group_pushed}
 use Rattle.law_sweep.proofs.LoopSweeps.{same_set, set_off}
 use Rattle.law_sweep.proofs.Slots.{few_slots, force_again, slots_trail, with_slots, slots_same, slots_are, slots_set, slots_pushed}
-use Rattle.law_sweep.proofs.ForthStores.{needed_through, enters}
+use Rattle.law_sweep.proofs.ForthStores.{needed_through, enters, uses_first, uses_last, uses_step}
 use Rattle.law_sweep.proofs.StepRuns.{NumbersFit, numbers_few}
 use Rattle.law_cost.specs.Sweeps.{statements_of}
 use Rattle.law_cost.specs.Along.{BothCost}
@@ -143,15 +142,6 @@ module _ (qs : List Procedure) (depth : ℕ) (sh : Var → Shape) (level : ℕ) 
   abbrev back : Code
   back = reversed_backward (suc d) line (plain x) mark (pushes p line snapshot) (pops p line snapshot) (pops p line saved_names) plain_call (one line (adjoint_call g.callee given))
 
-  uses_a : Within (λ v. reads_term v ea) needed
-  uses_a v h = laws.needs_uses v (or_left (reads_term v ea) (reads_term v eb || reads_term v ec) h)
-
-  uses_b : Within (λ v. reads_term v eb) needed
-  uses_b v h = laws.needs_uses v (or_right (reads_term v ea) (reads_term v eb || reads_term v ec) (or_left (reads_term v eb) (reads_term v ec) h))
-
-  uses_c : Within (λ v. reads_term v ec) needed
-  uses_c v h = laws.needs_uses v (or_right (reads_term v ea) (reads_term v eb || reads_term v ec) (or_right (reads_term v eb) (reads_term v ec) h))
-
   -- the turns of the forward sweep
   abbrev turns_sum : ℕ
   turns_sum = sum_of (λ z. P z + 3) 0 l
@@ -195,7 +185,7 @@ module _ (qs : List Procedure) (depth : ℕ) (sh : Var → Shape) (level : ℕ) 
       let v = turns_forth q sh level cells d line p known x one_cell l m mark a0 c0 g given apart apart' name change loops U U' w i ea eb ec laws numbers.small s nexts P (λ i b f t. steps.plain_calls i b f t) x_free l 0 b f4 t2 (omega arith) same4 value4 count_is in
       let after = v.later in
       let looped = loop_takes q nw line (plain x) (var (helper first (suc d))) eb (var (helper stride (suc d))) turn_code (scene b f3 t2) (scene after v.to t2) a0 b0 c0 l turns_sum
-      (ap Ok first_is) (value_again sh level needed u f3 same3 eb text_b uses_b ∙ is_b) (ap Ok stride_is) turns_is v.takes in
+      (ap Ok first_is) (value_again sh level needed u f3 same3 eb text_b (uses_last x mark g given w i ea eb ec laws) ∙ is_b) (ap Ok stride_is) turns_is v.takes in
       let none_else : 0 + l ≡ l = omega arith in
       let counted : v.to (helper count (suc d)) 0 ≡ pos l = v.moved.counted_is ∙ ap pos none_else in
       let slots_then = slots_trail mark m ++ (c0 ∷ (a0 ∷ t2)) in
@@ -207,8 +197,8 @@ module _ (qs : List Procedure) (depth : ℕ) (sh : Var → Shape) (level : ℕ) 
       (leads_step q nw line (runtime (push_word (helper count (suc d)) none)) stop (scene after v.to slots_then) (scene after v.to all) (scene after v.to all) (λ k. ap (λ (z : ℤ). Done (scene after v.to (z ∷ slots_then)) k) counted)
       (leads_stop q nw (scene after v.to all))))) in
       let front_leads : Leads q nw front (scene b f t) (scene b f3 t2) =
-      leads_step q nw line (assign (helper first (suc d)) none ea) _ (scene b f t) (scene b f1 t) (scene b f3 t2) (λ k. rw (value_again sh level needed u f same ea text_a uses_a ∙ is_a) refl)
-      (leads_step q nw line (assign (helper stride (suc d)) none ec) _ (scene b f1 t) (scene b f2 t) (scene b f3 t2) (λ k. rw (value_again sh level needed u f1 same1 ec text_c uses_c ∙ is_c) refl)
+      leads_step q nw line (assign (helper first (suc d)) none ea) _ (scene b f t) (scene b f1 t) (scene b f3 t2) (λ k. rw (value_again sh level needed u f same ea text_a (uses_first x mark g given w i ea eb ec laws) ∙ is_a) refl)
+      (leads_step q nw line (assign (helper stride (suc d)) none ec) _ (scene b f1 t) (scene b f2 t) (scene b f3 t2) (λ k. rw (value_again sh level needed u f1 same1 ec text_c (uses_step x mark g given w i ea eb ec laws) ∙ is_c) refl)
       (slots_set sh level (suc d) q line mark m inner_front b f2 t (scene b f3 t2) (force_again sh level needed u f2 same2 mark m has laws.needs_slots force_is)
       (leads_step q nw line (assign (helper count (suc d)) none (literal 0)) groups (scene b fm t) (scene b f3 t) (scene b f3 t2) (λ k. refl)
       (leads_append q nw (pushes p line saved_names) (pushes p line snapshot) (scene b f3 t) (scene b f3 t1) (scene b f3 t2) (saved.pushed b t) (taken.pushed b t1))))) in

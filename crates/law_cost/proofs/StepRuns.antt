@@ -10,7 +10,7 @@ sum_shift f lo (suc n) = ap (λ z. f (suc lo) + z) (sum_shift f (suc lo) n)
 
 -- m turns that begin with k statements and end with k', of which each takes one before its body, take at most what is given for each
 pub steps_spent : (m k k' : ℕ) (given left f : ℕ → ℕ) → ((i : ℕ) → i < m → first_then k left i ≡ suc (given i)) → first_then k left m ≡ k' → ((i : ℕ) → i < m → given i ≤ left i + f i) → k ≤ k' + sum_of (λ i. f i + 1) 0 m
-steps_spent zero k k' given left f counted all few = omega (arith, all)
+steps_spent zero k k' given left f counted all few = let is : k ≡ k' = all in omega (arith, is)
 steps_spent (suc m) k k' given left f counted all few =
     let is : k ≡ suc (given 0) = counted 0 (omega arith) in
     let first = few 0 (omega arith) in

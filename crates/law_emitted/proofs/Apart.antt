@@ -6,20 +6,25 @@ use Rattle.adj_tree.specs.Code.{Var, plain, shadow, helper, Role, role_code, wor
 use Rattle.adj_tree.proofs.Names.{nat_same}
 use Rattle.def_meaning.specs.Apart.{has_name, AreApart}
 use Rattle.def_names.specs.Reserved.{reserved}
-use Rattle.def_sweep.specs.Naming.{adjoint_text, own, named, unit_names}
+use Rattle.def_sweep.specs.Naming.{Derived, own, named_for, unit_names_for}
 use Rattle.def_names.specs.Numbers.{Vars}
 use Rattle.def_sweep.specs.Marked.{names_in}
 use Rattle.def_sweep.specs.Declared.{helpers_from}
 use Rattle.def_names.proofs.Variables.{or_false, or_left, or_right}
-use Rattle.def_meaning.proofs.Variables.{var_refl}
 use Rattle.def_sweep.specs.Plan.{Plan, Schedules, Step}
 use Rattle.def_sweep.specs.Program.{helpers_among, works_used, temps_used, depth_used_with, tells_some_with, goes_back_with, reverses_by, any_step, has_slots, is_do, is_loop, loop_helpers_with, reversal_helpers, all_reversal_helpers, helpers_used_with, helpers_used}
+use Rattle.law_emitted.proofs.Lists.{Each}
 use Rattle.law_emitted.proofs.Tables.{has_var, among, has_var-append, among-append, has_made, has_own, among_shadows, plain_no_shadow, AreHelpers, plain_no_helper, shadow_no_helper}
 
 -- no variable stands twice
 abbrev pub VarsApart : List Var → Type 0
 VarsApart [] = Unit {0}
 VarsApart (v ∷ vs) = (among v vs ≡ false) × VarsApart vs
+
+-- a list none of whose variables stands in another, and that one behind it
+pub vars_append : (vs ws : List Var) → VarsApart vs → VarsApart ws → Each (λ v. among v ws ≡ false) vs → VarsApart (vs ++ ws)
+vars_append [] ws a b n = b
+vars_append (v ∷ vs) ws a b n = (among-append v vs ws ∙ rw (a.0, n.0) refl, vars_append vs ws a.1 b n.1)
 
 -- names that tell variables apart are apart
 pub names_apart : (name : Var → List ℕ) → ((v w : Var) → name_eq (name v) (name w) ≡ var_eq v w) → (vs : List Var) → VarsApart vs → AreApart (map name vs)
@@ -52,13 +57,14 @@ shadow_there a x (y ∷ xs) = go (a (plain y)) (shadow_there a x xs)
     go true ih = ap (λ b. name_eq x y || b) ih
     go false ih = ih
 
-helper_not_there : (a : Vars) (r : Role) (k : ℕ) (xs : List (List ℕ)) → among (helper r k) (interleaved a xs) ≡ false
-helper_not_there a r k [] = refl
-helper_not_there a r k (y ∷ xs) = go (a (plain y)) (helper_not_there a r k xs)
+-- they are no helpers
+pub no_helpers : (a : Vars) (xs : List (List ℕ)) (hs : List Var) → AreHelpers hs → Each (λ v. among v hs ≡ false) (interleaved a xs)
+no_helpers a [] hs h = tt
+no_helpers a (x ∷ xs) hs h = go (a (plain x)) (no_helpers a xs hs h)
   where
-    go : (b : Bool) → among (helper r k) (interleaved a xs) ≡ false → among (helper r k) (if b then plain y ∷ shadow y ∷ interleaved a xs else plain y ∷ interleaved a xs) ≡ false
-    go true ih = ih
-    go false ih = ih
+    go : (b : Bool) → Each (λ v. among v hs ≡ false) (interleaved a xs) → Each (λ v. among v hs ≡ false) (if b then plain x ∷ shadow x ∷ interleaved a xs else plain x ∷ interleaved a xs)
+    go true ih = (plain_no_helper x hs h, (shadow_no_helper x hs h, ih))
+    go false ih = (plain_no_helper x hs h, ih)
 
 -- a name that isn't in a list isn't among its marked ones
 not_marked : (a : Vars) (x : List ℕ) (xs : List (List ℕ)) → has_name x xs ≡ false → has_name x (names_in a xs) ≡ false
@@ -111,12 +117,12 @@ roles_among f g r k (suc n) h = go (g k) (roles_among f g r (suc k) n h)
     go true ih = (h, ih)
     go false ih = ih
 
-roles_from : (f : ℕ → Bool) (r : Role) (k n : ℕ) → f (role_code r) ≡ true → OfRoles f (helpers_from r k n)
+pub roles_from : (f : ℕ → Bool) (r : Role) (k n : ℕ) → f (role_code r) ≡ true → OfRoles f (helpers_from r k n)
 roles_from f r k zero h = tt
 roles_from f r k (suc n) h = (h, roles_from f r (suc k) n h)
 
 -- lists of which the one has roles that the other hasn't are apart
-roles_apart : (f g : ℕ → Bool) → ((k : ℕ) → f k ≡ true → g k ≡ false) → (vs ws : List Var) → OfRoles f vs → OfRoles g ws → VarsApart vs → VarsApart ws → VarsApart (vs ++ ws)
+pub roles_apart : (f g : ℕ → Bool) → ((k : ℕ) → f k ≡ true → g k ≡ false) → (vs ws : List Var) → OfRoles f vs → OfRoles g ws → VarsApart vs → VarsApart ws → VarsApart (vs ++ ws)
 roles_apart f g o [] ws h k a b = b
 roles_apart f g o (plain x ∷ vs) ws h k a b = absurd h
 roles_apart f g o (shadow x ∷ vs) ws h k a b = absurd h
@@ -154,32 +160,9 @@ among_apart g r k (suc n) = go (g k) (among_apart g r (suc k) n)
     go true ih = (below_among g r k (suc k) n (omega arith), ih)
     go false ih = ih
 
-from_apart : (r : Role) (k n : ℕ) → VarsApart (helpers_from r k n)
+pub from_apart : (r : Role) (k n : ℕ) → VarsApart (helpers_from r k n)
 from_apart r k zero = tt
 from_apart r k (suc n) = (below_from r k (suc k) n (omega arith), from_apart r (suc k) n)
-
--- helpers are apart from variables and shadows
-with_helpers : (a : Vars) (xs : List (List ℕ)) (hs : List Var) → AreHelpers hs → VarsApart (interleaved a xs) → VarsApart hs → VarsApart (interleaved a xs ++ hs)
-with_helpers a xs hs h b c = go (interleaved a xs) hs h (λ r k. helper_not_there a r k xs) b c
-  where
-    -- a list without helpers, and helpers
-    go : (vs ws : List Var) → AreHelpers ws → ((r : Role) (k : ℕ) → among (helper r k) vs ≡ false) → VarsApart vs → VarsApart ws → VarsApart (vs ++ ws)
-    go [] ws h n b c = c
-    go (plain x ∷ vs) ws h n b c = (among-append (plain x) vs ws ∙ rw (b.0, plain_not ws h) refl, go vs ws h n b.1 c)
-      where
-        plain_not : (ws : List Var) → AreHelpers ws → among (plain x) ws ≡ false
-        plain_not [] h = refl
-        plain_not (plain y ∷ ws) h = absurd h
-        plain_not (shadow y ∷ ws) h = absurd h
-        plain_not (helper r k ∷ ws) h = plain_not ws h
-    go (shadow x ∷ vs) ws h n b c = (among-append (shadow x) vs ws ∙ rw (b.0, shadow_not ws h) refl, go vs ws h n b.1 c)
-      where
-        shadow_not : (ws : List Var) → AreHelpers ws → among (shadow x) ws ≡ false
-        shadow_not [] h = refl
-        shadow_not (plain y ∷ ws) h = absurd h
-        shadow_not (shadow y ∷ ws) h = absurd h
-        shadow_not (helper r k ∷ ws) h = shadow_not ws h
-    go (helper r k ∷ vs) ws h n b c = absurd (let p : true ≡ false = sym (or_left (var_eq (helper r k) (helper r k)) (among (helper r k) vs) (var_refl (helper r k))) ∙ n r k in cc)
 
 -- the helpers of a unit stand once
 module _ (sc : Schedules) (p : Plan) (i : ℕ) (c : Code) where
@@ -325,15 +308,11 @@ module _ (sc : Schedules) (p : Plan) (i : ℕ) (c : Code) where
       go true = of_role control (helper control 0 ∷ []) others (refl, tt) (others_roles (other_than control) (refl, (refl, (refl, (refl, (refl, refl))))) refl refl refl refl refl refl) (refl, tt) others_apart
       go false = others_apart
 
-  -- and so do all variables of the adjoint
-  pub all_apart : (a : Vars) (xs : List (List ℕ)) → AreApart xs → AreHelpers (helpers_used_with sc p i c) → VarsApart (interleaved a xs ++ helpers_used_with sc p i c)
-  all_apart a xs h k = with_helpers a xs (helpers_used_with sc p i c) k (interleaved_apart a xs h) used_apart_with
-
 -- where no loop is reversed by a schedule
 pub used_apart : (p : Plan) (i : ℕ) (c : Code) → VarsApart (helpers_used p i c)
 used_apart p i c = used_apart_with None p i c
 
--- ---- the variables that the table of an adjoint has are those that it declares
+-- ---- the variables that the table of a made unit has are those that it declares
 
 pub no_shadow_own : (x : List ℕ) (xs : List (List ℕ)) → has_var (shadow x) (map own xs) ≡ false
 no_shadow_own x [] = refl
@@ -347,13 +326,13 @@ no_helper_shadow : (r : Role) (k : ℕ) (xs : List (List ℕ)) → among (helper
 no_helper_shadow r k [] = refl
 no_helper_shadow r k (y ∷ xs) = no_helper_shadow r k xs
 
-module _ (vs units : List (List ℕ)) (a : Vars) (hs : List Var) (helpers : AreHelpers hs) where
+module _ (o : Derived) (vs units : List (List ℕ)) (a : Vars) (hs : List Var) (helpers : AreHelpers hs) where
   abbrev made : List Var
   made = map shadow (names_in a vs) ++ hs
 
-  split : (v : Var) → has_var v (unit_names vs units (map shadow (names_in a vs) ++ hs)) ≡ (has_var v (map own vs) || (among v (map shadow (names_in a vs)) || among v hs))
+  split : (v : Var) → has_var v (unit_names_for o vs units (map shadow (names_in a vs) ++ hs)) ≡ (has_var v (map own vs) || (among v (map shadow (names_in a vs)) || among v hs))
   split v =
-      has_var-append v (map own vs) (named (vs ++ (units ++ reserved)) made) ∙ ap (λ b. has_var v (map own vs) || b) (has_made adjoint_text v (vs ++ (units ++ reserved)) made ∙ among-append v (map shadow (names_in a vs)) hs)
+      has_var-append v (map own vs) (named_for o (vs ++ (units ++ reserved)) made) ∙ ap (λ b. has_var v (map own vs) || b) (has_made o v (vs ++ (units ++ reserved)) made ∙ among-append v (map shadow (names_in a vs)) hs)
 
   -- of three of which two are false the third is what holds
   first_of : (b c d : Bool) → c ≡ false → d ≡ false → (b || (c || d)) ≡ true → b ≡ true
@@ -373,7 +352,7 @@ module _ (vs units : List (List ℕ)) (a : Vars) (hs : List Var) (helpers : AreH
   third_of false true d e f h = absurd cc
   third_of false false d e f h = h
 
-  pub table_in : (v : Var) → has_var v (unit_names vs units (map shadow (names_in a vs) ++ hs)) ≡ true → among v (interleaved a vs ++ hs) ≡ true
+  pub table_in : (v : Var) → has_var v (unit_names_for o vs units (map shadow (names_in a vs) ++ hs)) ≡ true → among v (interleaved a vs ++ hs) ≡ true
   table_in (plain x) h =
       let there : has_name x vs ≡ true = sym (has_own x vs) ∙ first_of (has_var (plain x) (map own vs)) (among (plain x) (map shadow (names_in a vs))) (among (plain x) hs) (plain_no_shadow x (names_in a vs)) (plain_no_helper x hs helpers) (sym (split (plain x)) ∙ h) in
       among-append (plain x) (interleaved a vs) hs ∙ or_left (among (plain x) (interleaved a vs)) (among (plain x) hs) (plain_there a x vs ∙ there)

@@ -1,10 +1,9 @@
 -- What the adjoints that are emitted call is emitted: as it is where the call is kept, or turned by a reversal, and as an adjoint where it is adjointed.
-use Rattle.std.proofs.Common.{◌≡◌, ℕ, Bool, true, false, List, refl, sym, ◌∙◌}
+use Rattle.std.proofs.Common.{◌≡◌, ℕ, Bool, true, false, List, sym, ◌∙◌}
 use Rattle.std.specs.Prelude.{Some, None}
 use Rattle.adj_tree.specs.Code.{name_eq, Procedure}
 use Rattle.def_meaning.specs.Written.{find_unit}
 use Rattle.def_names.proofs.Variables.{or_left, or_right}
-use Rattle.def_sweep.specs.Plan.{Schedules}
 use Rattle.def_sweep.specs.Marking.{ProgramMarks, SplitsNothing, first_statement}
 use Rattle.def_sweep.specs.Program.{calls_in, calls_some, turns_in, turns_some, takes_part, answers, has_adjoint, is_kept_with, is_carried_with, schedules_in}
 use Rattle.law_sweep.proofs.Unsplit.{kept_by_adjoints, unsplit_answers, unsplit_kept}

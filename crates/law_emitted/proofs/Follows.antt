@@ -4,7 +4,7 @@ use Rattle.adj_tree.specs.Code.{Terms, Act, assign, choose, loop, during, call, 
 use Rattle.def_text.specs.Written.{IsName}
 use Rattle.def_names.specs.Reserved.{is_runtime}
 use Rattle.def_names.specs.Numbers.{next, behind}
-use Rattle.def_sweep.specs.Plan.{Plan, names_of, actuals_named, Schedules, Step, reversed_by, ByStep}
+use Rattle.def_sweep.specs.Plan.{Plan, names_of, actuals_named, Schedules, reversed_by, ByStep}
 use Rattle.def_sweep.specs.Rows.{with_shadows}
 use Rattle.law_emitted.specs.Shadowed.{AreCarried}
 

@@ -34,7 +34,6 @@ use Rattle.law_sweep.proofs.Variables.{dummy_among}
 use Rattle.law_emitted.proofs.Lists.{Each, each_front, each_behind, each_found}
 use Rattle.law_emitted.proofs.Texts.{actuals_given}
 use Rattle.law_emitted.proofs.Statements.{CallHasNone, call_of_unit}
-use Rattle.law_emitted.proofs.Callings.{calls_found_some}
 use Rattle.law_emitted.proofs.CheckedStepCalls.{turned_alone}
 use Rattle.law_emitted.proofs.StepCalls.{step_body}
 use Rattle.law_emitted.proofs.Carried.{kept_carried, turned_carried, adjointed_there}
@@ -46,7 +45,7 @@ use Rattle.law_emitted.proofs.Writing.{IsPlain, IsApart, no_given, CallWrites, T
 -- ---- what is handed back
 
 -- more is handed back where more dummies are written
-flags_more : (v : Var) (t s : List ℕ → Bool) (ds : List (List ℕ)) → ((d : List ℕ) → t d ≡ true → s d ≡ true) → (args : Terms) → is_handed_back v (map t ds) args ≡ true → is_handed_back v (map s ds) args ≡ true
+pub flags_more : (v : Var) (t s : List ℕ → Bool) (ds : List (List ℕ)) → ((d : List ℕ) → t d ≡ true → s d ≡ true) → (args : Terms) → is_handed_back v (map t ds) args ≡ true → is_handed_back v (map s ds) args ≡ true
 flags_more v t s [] h args e = absurd cc
 flags_more v t s (d ∷ ds) h none e = absurd cc
 flags_more v t s (d ∷ ds) h (more a args) e = or_more _ (is_handed_back v (map t ds) args) _ (is_handed_back v (map s ds) args) (λ b. let p = and_true (t d) _ b in rw (h d p.0, p.1) refl) (flags_more v t s ds h args) e
@@ -99,7 +98,7 @@ place_plain (shadow x) (more e es) h = absurd h.0
 place_plain (helper r k) none h = absurd h
 place_plain (helper r k) (more e es) h = absurd h.0
 
-variable_plain : (x : Var) → IsVariable x → IsPlain x
+pub variable_plain : (x : Var) → IsVariable x → IsPlain x
 variable_plain (plain x) h = tt
 variable_plain (shadow x) h = absurd h
 variable_plain (helper r k) h = absurd h

@@ -5,7 +5,7 @@ use Rattle.adj_tree.specs.Code.{Var, helper, control, first, stride, count, turn
 use Rattle.adj_tree.proofs.Names.{nat_refl}
 use Rattle.def_names.specs.Numbers.{next, behind}
 use Rattle.def_names.proofs.Variables.{or_left, or_right}
-use Rattle.def_sweep.specs.Plan.{Plan, Schedules, Step, found_or, is_from_variable, reversed_by}
+use Rattle.def_sweep.specs.Plan.{Plan, Schedules, Step, is_from_variable, reversed_by}
 use Rattle.def_sweep.specs.Rows.{is_empty}
 use Rattle.def_sweep.specs.Emission.{backward_with}
 use Rattle.def_sweep.specs.Program.{depth_act_with, depth_used_with, tells_act_with, tells_some_with, goes_back_act_with, goes_back_with, reverses_act_by, reverses_by, any_step, has_slots, is_do, is_loop}

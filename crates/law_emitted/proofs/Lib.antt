@@ -26,6 +26,7 @@ pub mod Sources
 pub mod UnitFaults
 pub mod Units
 pub mod Programs
+pub mod MadeFaults
 pub mod AdjointNames
 pub mod NameFaults
 pub mod Carried
@@ -33,10 +34,13 @@ pub mod Called
 pub mod Actuals
 pub mod CallFaults
 pub mod Lawful
+pub mod PlainTexts
+pub mod DistinctActuals
 pub mod ActualFaults
 pub mod Nesting
 pub mod Assigned
 pub mod Chains
+pub mod KeptChains
 pub mod ChainFaults
 pub mod Writing
 pub mod SparedLoops

@@ -86,7 +86,7 @@ not_found (v ∷ us) x h = go (name_eq v.name x) refl h (not_found us x)
     go false e h ih = rw (name_comm v.name x e, ih h) refl
 
 -- and the other way round
-not_there : (us : List Procedure) (x : List ℕ) → has_name x (map unit_name us) ≡ false → is_some (find_unit us x) ≡ false
+pub not_there : (us : List Procedure) (x : List ℕ) → has_name x (map unit_name us) ≡ false → is_some (find_unit us x) ≡ false
 not_there [] x h = refl
 not_there (v ∷ us) x h = let p = or_false (name_eq x v.name) (has_name x (map unit_name us)) h in ap (λ b. is_some (if b then Some v else find_unit us x)) (name_comm x v.name p.0) ∙ not_there us x p.1
 
@@ -172,15 +172,23 @@ module _ (rules : Rules) (ps : List Procedure) (checked : IsChecked rules ps) wh
 -- ---- names that no emitted unit has
 
 -- a name of a list among those of all lists
-in_flat : (f : Procedure → List (List ℕ)) (us : List Procedure) → Each (λ u. (x : List ℕ) → has_name x (f u) ≡ true → has_name x (flat_map f us) ≡ true) us
+pub in_flat : (f : Procedure → List (List ℕ)) (us : List Procedure) → Each (λ u. (x : List ℕ) → has_name x (f u) ≡ true → has_name x (flat_map f us) ≡ true) us
 in_flat f [] = tt
 in_flat f (u ∷ us) = (
   λ x h. has-append x (f u) (flat_map f us) ∙ or_left (has_name x (f u)) (has_name x (flat_map f us)) h,
   each_more (λ v. (x : List ℕ) → has_name x (f v) ≡ true → has_name x (flat_map f us) ≡ true) (λ v. (x : List ℕ) → has_name x (f v) ≡ true → has_name x (f u ++ flat_map f us) ≡ true) (λ v k x h. has-append x (f u) (flat_map f us) ∙ or_right (has_name x (f u)) (has_name x (flat_map f us)) (k x h)) us (in_flat f us),
 )
 
+-- calls of the runtime are no faults of a text that is run
+pub runtime_allowed : (u : Procedure) → runtime_calls run_rules u ≡ []
+runtime_allowed u = flat_none (λ (s : At Act). faults_if (not true && calls_runtime s.1) (fault 18 s.0)) (statements u.body) (all (statements u.body))
+  where
+    all : (ss : List (At Act)) → Each (λ (s : At Act). faults_if (not true && calls_runtime s.1) (fault 18 s.0) ≡ []) ss
+    all [] = tt
+    all (s ∷ ss) = (refl, all ss)
+
 -- seven kinds of faults
-none_of_seven : (a b c d e f g : List Refusal) → a ≡ [] → b ≡ [] → c ≡ [] → d ≡ [] → e ≡ [] → f ≡ [] → g ≡ [] → a ++ (b ++ (c ++ (d ++ (e ++ (f ++ g))))) ≡ []
+pub none_of_seven : (a b c d e f g : List Refusal) → a ≡ [] → b ≡ [] → c ≡ [] → d ≡ [] → e ≡ [] → f ≡ [] → g ≡ [] → a ++ (b ++ (c ++ (d ++ (e ++ (f ++ g))))) ≡ []
 none_of_seven a b c d e f g ha hb hc hd he hf hg = λ i. ha i ++ (hb i ++ (hc i ++ (hd i ++ (he i ++ (hf i ++ hg i)))))
 
 module _ (sb : Bool) (m : ProgramMarks) (unsplit : SplitsNothing m) (ps : List Procedure) (head : Procedure) (vars outvars : List Bool) (named : Each (λ u. IsName u.name) ps) (there : Each (λ u. is_unit ps u.name ≡ true) ps) where
@@ -232,13 +240,6 @@ module _ (sb : Bool) (m : ProgramMarks) (unsplit : SplitsNothing m) (ps : List P
       flat_none (λ (p : At (List ℕ)). faults_if (is_reserved p.1 || is_some (find_unit qs p.1)) (fault 18 p.0)) (places u)
       (each_more (λ (p : At (List ℕ)). (is_reserved p.1 ≡ false) × NoUnit p.1) (λ p. faults_if (is_reserved p.1 || is_some (find_unit qs p.1)) (fault 18 p.0) ≡ []) (λ p k. if_none (is_reserved p.1 || is_some (find_unit qs p.1)) (fault 18 p.0) (rw (k.0, not_there qs p.1 k.1) refl)) (places u) h)
 
-  no_runtime_faults : (u : Procedure) → runtime_calls run_rules u ≡ []
-  no_runtime_faults u = flat_none (λ (s : At Act). faults_if (not true && calls_runtime s.1) (fault 18 s.0)) (statements u.body) (all (statements u.body))
-    where
-      all : (ss : List (At Act)) → Each (λ (s : At Act). faults_if (not true && calls_runtime s.1) (fault 18 s.0) ≡ []) ss
-      all [] = tt
-      all (s ∷ ss) = (refl, all ss)
-
   -- a name of a unit that is neither reserved nor a unit's
   abbrev IsApart : List ℕ → Type 0
   IsApart x = (is_reserved x ≡ false) × NoUnit x
@@ -258,7 +259,7 @@ module _ (sb : Bool) (m : ProgramMarks) (unsplit : SplitsNothing m) (ps : List P
   carried_none : (u : Procedure) → UnitSound ps u → NamesSound ps u → ((x : List ℕ) → has_name x (variables u) ≡ true → has_name x (flat_map variables ps) ≡ true) → faults_of_names run_rules qs u ≡ []
   carried_none u s n inside =
       none_of_seven (undeclared u) (declared_twice u) (misused run_rules u) (bad_extents u) (reserved_variables qs u) (runtime_calls run_rules u) (too_many_variables run_rules u)
-      n.no_undeclared n.no_twice n.no_misused n.no_bad_extents (unreserved_places u (own_places u (own_apart u s n inside))) (no_runtime_faults u) refl
+      n.no_undeclared n.no_twice n.no_misused n.no_bad_extents (unreserved_places u (own_places u (own_apart u s n inside))) (runtime_allowed u) refl
 
   -- and the adjoint of one
   adjoint_none : (u : Procedure) → UnitSound ps u → NamesSound ps u → ((x : List ℕ) → has_name x (variables u) ≡ true → has_name x (flat_map variables ps) ≡ true) → HasShadows (plan_in m ps u) (first_statement ps u.name) u.body → faults_of_names run_rules qs (emitted_adjoint_with sb m ps head vars outvars u) ≡ []
@@ -277,7 +278,7 @@ module _ (sb : Bool) (m : ProgramMarks) (unsplit : SplitsNothing m) (ps : List P
           (each_more (λ (p : At (List ℕ)). has_name p.1 (map (λ d. d.name) v.declarations) ≡ true) (λ p. IsApart p.1)
           (λ p k. each_declared sb m ps (all_units m ps head) u s.written s.kernel s.free s.calls f n.dummies_once n.extent_dummy n.extents n.stands at_turn at_end turned ended IsApart (own_apart u s n inside) (λ z free k. (free.1, made_no_unit z k)) p.1 k) (places v)
           (places_declared sb m ps (all_units m ps head) u s.written s.kernel s.free s.calls f n.dummies_once n.extent_dummy n.extents n.stands at_turn at_end turned ended)))
-          (no_runtime_faults v) refl
+          (runtime_allowed v) refl
 
       go : (b : Bool) → faults_of_names run_rules qs (if b then adjoint_unit_with sb m ps (all_units m ps head) u (names_in (m.shadowed u.name) (unmarked u.dummies outvars)) (names_in (m.shadowed u.name) (unmarked u.dummies vars)) else adjoint_unit_with sb m ps (all_units m ps head) u [] []) ≡ []
       go true = clean _ _ (cleared m ps head vars outvars named u outvars) (cleared m ps head vars outvars named u vars)

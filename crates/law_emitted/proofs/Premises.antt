@@ -1,5 +1,5 @@
 -- A checked program meets all that the law on emitted programs asks, and so what is emitted for it is its adjoint.
-use Rattle.std.proofs.Common.{◌≡◌, ℕ, Bool, true, false, List, [], ◌∷◌, map, refl, sym, ap, ◌∙◌, subst, arith}
+use Rattle.std.proofs.Common.{◌≡◌, ℕ, Bool, true, false, List, [], ◌∷◌, map, refl, sym, ap, ◌∙◌, subst}
 use Rattle.std.specs.Prelude.{◌&&◌, ◌||◌, not, flat_map, Option, Some, None, IsTrue}
 use Rattle.adj_tree.specs.Code.{Var, plain, Act, Procedure}
 use Rattle.adj_tree.specs.declared.fault.Refusal.{Refusal}

@@ -19,7 +19,7 @@ use Rattle.law_emitted.proofs.ChainFaults.{chains_have_none}
 use Rattle.law_emitted.proofs.WriteFaults.{writes_have_none}
 
 -- a program that has none in any pass has no first one
-none_first : (qs : List Procedure) → unit_faults qs ≡ [] → name_faults run_rules qs ≡ [] → call_faults qs ≡ [] → chain_faults run_rules qs ≡ [] → write_faults qs ≡ [] → IsSound run_rules qs
+pub none_first : (qs : List Procedure) → unit_faults qs ≡ [] → name_faults run_rules qs ≡ [] → call_faults qs ≡ [] → chain_faults run_rules qs ≡ [] → write_faults qs ≡ [] → IsSound run_rules qs
 none_first qs units names calls chains writes = λ i. first_in_passes (units i ∷ names i ∷ calls i ∷ chains i ∷ writes i ∷ [])
 
 pub marked_sound : MarkedIsSound

@@ -131,7 +131,7 @@ pub record StatementSound (rules : Rules) (ps : List Procedure) (u : Procedure) 
   pub known : Each (Known (variables u)) (in_act s.1)
 
 -- a unit that is there is found
-unit_found : (ps : List Procedure) (n : List ℕ) → is_unit ps n ≡ true → (u : Procedure) × (find_unit ps n ≡ Some u)
+pub unit_found : (ps : List Procedure) (n : List ℕ) → is_unit ps n ≡ true → (u : Procedure) × (find_unit ps n ≡ Some u)
 unit_found [] n h = absurd cc
 unit_found (v ∷ ps) n h = go (name_eq v.name n) h (unit_found ps n)
   where

@@ -160,7 +160,7 @@ module _ (rules : Rules) (ps : List Procedure) (checked : IsChecked rules ps) wh
   units_apart = subst AreApart (unit_names ps) (apart_places 19 [] (unit_places ps) (none_behind (reserved_units ps) (repeated_units ps) none.units))
 
   -- no unit's name is reserved
-  all_free : Each (λ u. is_reserved u.name ≡ false) ps
+  pub all_free : Each (λ u. is_reserved u.name ≡ false) ps
   all_free = of_units ps (none_each (λ (p : At (List ℕ)). faults_if (is_reserved p.1) (fault 18 p.0)) (unit_places ps) (none_front (reserved_units ps) (repeated_units ps) none.units))
     where
       of_units : (us : List Procedure) → Each (λ (p : At (List ℕ)). faults_if (is_reserved p.1) (fault 18 p.0) ≡ []) (unit_places us) → Each (λ u. is_reserved u.name ≡ false) us

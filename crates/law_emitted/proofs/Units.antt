@@ -72,51 +72,51 @@ other_written d x h w = record { named = h; few_extents = w.few_extents; extents
 -- ---- a unit that is made, with shadows of some variables and with these helpers
 
 module _ (o : Derived) (units : List (List ℕ)) (u : Procedure) (a : Vars) (hs : List Var) (written : IsWrittenProcedure u) (free : Each IsFree (variables u)) (helpers : AreHelpers hs) where
-  abbrev ns : List Named
-  ns = table_for o (variables u) units a hs
+  abbrev its_names : List Named
+  its_names = table_for o (variables u) units a hs
 
   -- a variable that has a name
-  abbrev Q : Var → Option ℕ → Type 0
-  Q v n = has_var v ns ≡ true
+  abbrev HasName : Var → Option ℕ → Type 0
+  HasName v n = has_var v its_names ≡ true
 
-  abbrev A : Var → Type 0
-  A v = Unit {0}
+  abbrev AnyArray : Var → Type 0
+  AnyArray v = Unit {0}
 
   -- the variables of its source have one
-  pub source_formed : (ps : List Procedure) → IsKernelCode u.body → Each (CallHasNone ps u) (statements u.body) → OverCode Q A Any u.body
-  source_formed ps kernel calls = source_code Q A (Known (variables u)) (λ x n k. has_plain_for o (variables u) units a hs free helpers x k) ps u u.body written.body kernel (names_known u) calls
+  pub source_formed : (ps : List Procedure) → IsKernelCode u.body → Each (CallHasNone ps u) (statements u.body) → OverCode HasName AnyArray Any u.body
+  source_formed ps kernel calls = source_code HasName AnyArray (Known (variables u)) (λ x n k. has_plain_for o (variables u) units a hs free helpers x k) ps u u.body written.body kernel (names_known u) calls
 
-  shadow_named : (x : List ℕ) → has_name x (variables u) ≡ true → a (plain x) ≡ true → IsName (name_in ns (shadow x))
+  shadow_named : (x : List ℕ) → has_name x (variables u) ≡ true → a (plain x) ≡ true → IsName (name_in its_names (shadow x))
   shadow_named x h marked = (named_free_for o (variables u) units a hs free helpers (shadow x) (has_shadow_for o (variables u) units a hs free helpers x h marked)).0
 
-  dummies_written : (xs : List (List ℕ)) → Each (λ x. IsName x × (has_name x (variables u) ≡ true)) xs → Each IsName (shadows_behind a ns xs)
+  dummies_written : (xs : List (List ℕ)) → Each (λ x. IsName x × (has_name x (variables u) ≡ true)) xs → Each IsName (shadows_behind a its_names xs)
   dummies_written [] h = tt
   dummies_written (x ∷ xs) h = go (a (plain x)) refl (dummies_written xs h.1)
     where
-      go : (b : Bool) → a (plain x) ≡ b → Each IsName (shadows_behind a ns xs) → Each IsName (if b then x ∷ name_in ns (shadow x) ∷ shadows_behind a ns xs else x ∷ shadows_behind a ns xs)
+      go : (b : Bool) → a (plain x) ≡ b → Each IsName (shadows_behind a its_names xs) → Each IsName (if b then x ∷ name_in its_names (shadow x) ∷ shadows_behind a its_names xs else x ∷ shadows_behind a its_names xs)
       go true e ih = (h.0.0, (shadow_named x h.0.1 e, ih))
       go false e ih = (h.0.0, ih)
 
-  declared_written : (xs : List (List ℕ)) → Each (λ x. IsName x × (has_name x (variables u) ≡ true)) xs → All IsWrittenDeclaration (declared_behind a ns u xs)
+  declared_written : (xs : List (List ℕ)) → Each (λ x. IsName x × (has_name x (variables u) ≡ true)) xs → All IsWrittenDeclaration (declared_behind a its_names u xs)
   declared_written [] h = All-nil IsWrittenDeclaration
   declared_written (x ∷ xs) h = go (a (plain x)) refl (declared_written xs h.1)
     where
       here : IsWrittenDeclaration (declaration u.line u.declarations x)
       here = declaration_written u.line u.declarations x h.0.0 written.declarations
 
-      go : (b : Bool) → a (plain x) ≡ b → All IsWrittenDeclaration (declared_behind a ns u xs) →
-          All IsWrittenDeclaration (if b then declaration u.line u.declarations x ∷ record (declaration u.line u.declarations x) { name = name_in ns (shadow x) } ∷ declared_behind a ns u xs else declaration u.line u.declarations x ∷ declared_behind a ns u xs)
+      go : (b : Bool) → a (plain x) ≡ b → All IsWrittenDeclaration (declared_behind a its_names u xs) →
+          All IsWrittenDeclaration (if b then declaration u.line u.declarations x ∷ record (declaration u.line u.declarations x) { name = name_in its_names (shadow x) } ∷ declared_behind a its_names u xs else declaration u.line u.declarations x ∷ declared_behind a its_names u xs)
       go true e ih =
-          All-cons IsWrittenDeclaration (declaration u.line u.declarations x) (record (declaration u.line u.declarations x) { name = name_in ns (shadow x) } ∷ declared_behind a ns u xs) here
-          (All-cons IsWrittenDeclaration (record (declaration u.line u.declarations x) { name = name_in ns (shadow x) }) (declared_behind a ns u xs) (other_written (declaration u.line u.declarations x) (name_in ns (shadow x)) (shadow_named x h.0.1 e) here) ih)
-      go false e ih = All-cons IsWrittenDeclaration (declaration u.line u.declarations x) (declared_behind a ns u xs) here ih
+          All-cons IsWrittenDeclaration (declaration u.line u.declarations x) (record (declaration u.line u.declarations x) { name = name_in its_names (shadow x) } ∷ declared_behind a its_names u xs) here
+          (All-cons IsWrittenDeclaration (record (declaration u.line u.declarations x) { name = name_in its_names (shadow x) }) (declared_behind a its_names u xs) (other_written (declaration u.line u.declarations x) (name_in its_names (shadow x)) (shadow_named x h.0.1 e) here) ih)
+      go false e ih = All-cons IsWrittenDeclaration (declaration u.line u.declarations x) (declared_behind a its_names u xs) here ih
 
-  helpers_written : (line : ℕ) (vs : List Var) → Each (λ v. IsName (name_in ns v)) vs → All IsWrittenDeclaration (declared_helpers ns line vs)
+  helpers_written : (line : ℕ) (vs : List Var) → Each (λ v. IsName (name_in its_names v)) vs → All IsWrittenDeclaration (declared_helpers its_names line vs)
   helpers_written line [] h = All-nil IsWrittenDeclaration
-  helpers_written line (v ∷ vs) h = All-cons IsWrittenDeclaration (scalar line (name_in ns v)) (declared_helpers ns line vs) (scalar_written line (name_in ns v) h.0) (helpers_written line vs h.1)
+  helpers_written line (v ∷ vs) h = All-cons IsWrittenDeclaration (scalar line (name_in its_names v)) (declared_helpers its_names line vs) (scalar_written line (name_in its_names v) h.0) (helpers_written line vs h.1)
 
-  helper_names : Each (λ v. IsName (name_in ns v)) hs
-  helper_names = each_var (λ v. IsName (name_in ns v)) hs (λ v h. (named_free_for o (variables u) units a hs free helpers v (has_helper_for o (variables u) units a hs free helpers v h)).0)
+  helper_names : Each (λ v. IsName (name_in its_names v)) hs
+  helper_names = each_var (λ v. IsName (name_in its_names v)) hs (λ v h. (named_free_for o (variables u) units a hs free helpers v (has_helper_for o (variables u) units a hs free helpers v h)).0)
 
   dummies_known : Each (λ x. IsName x × (has_name x (variables u) ≡ true)) u.dummies
   dummies_known = each_name (λ x. IsName x × (has_name x (variables u) ≡ true)) u.dummies (λ x h. let k = dummy_among u x h in ((of_each IsFree (variables u) free x k).0, k))
@@ -125,12 +125,12 @@ module _ (o : Derived) (units : List (List ℕ)) (u : Procedure) (a : Vars) (hs 
   variables_known = each_name (λ x. IsName x × (has_name x (variables u) ≡ true)) (variables u) (λ x h. ((of_each IsFree (variables u) free x h).0, h))
 
   -- it is written, where its name is, and its code is formed over what has a name
-  pub made_written : (name : List ℕ) (c : Code) → IsName name → OverCode Q A Any c → IsWrittenProcedure (made_unit_for o name a units u hs c)
+  pub made_written : (name : List ℕ) (c : Code) → IsName name → OverCode HasName AnyArray Any c → IsWrittenProcedure (made_unit_for o name a units u hs c)
   made_written name c named over = record {
     named = named;
-    dummies = all_each IsName (shadows_behind a ns u.dummies) (dummies_written u.dummies dummies_known);
-    declarations = All-append IsWrittenDeclaration (declared_behind a ns u (variables u)) (declared_helpers ns u.line hs) (declared_written (variables u) variables_known) (helpers_written u.line hs helper_names);
-    body = written_code Q A Any (naming ns) (λ v n q. named_indexed_for o (variables u) units a hs free helpers v q) c over;
+    dummies = all_each IsName (shadows_behind a its_names u.dummies) (dummies_written u.dummies dummies_known);
+    declarations = All-append IsWrittenDeclaration (declared_behind a its_names u (variables u)) (declared_helpers its_names u.line hs) (declared_written (variables u) variables_known) (helpers_written u.line hs helper_names);
+    body = written_code HasName AnyArray Any (naming its_names) (λ v n q. named_indexed_for o (variables u) units a hs free helpers v q) c over;
   }
 
 -- ---- the adjoint of a unit
@@ -154,14 +154,14 @@ module _ (sb : Bool) (m : ProgramMarks) (ps : List Procedure) (units : List (Lis
   abbrev table : List Named
   table = adjoint_names_with sb m ps units u
 
-  -- a variable that has a name
-  abbrev HasName : Var → Option ℕ → Type 0
-  HasName v n = has_var v table ≡ true
+  -- a variable that the table has
+  abbrev InTable : Var → Option ℕ → Type 0
+  InTable v n = has_var v table ≡ true
 
   abbrev Whole : Var → Type 0
   Whole v = Unit {0}
 
-  allows : Allows HasName Whole a p.arrays
+  allows : Allows InTable Whole a p.arrays
   allows = record {
     shadows = λ x n marked q. has_shadow (variables u) units a hs free (used_helpers_with sc p i u.body) x (plain_known (variables u) units a hs free (used_helpers_with sc p i u.body) x q) marked;
     whole = λ x e q. tt;
@@ -169,15 +169,15 @@ module _ (sb : Bool) (m : ProgramMarks) (ps : List Procedure) (units : List (Lis
     scalars = λ x e q. q;
   }
 
-  helper_stands : (v : Var) → among v hs ≡ true → HasName v (Some 0)
+  helper_stands : (v : Var) → among v hs ≡ true → InTable v (Some 0)
   helper_stands v h = has_helper (variables u) units a hs free (used_helpers_with sc p i u.body) v h
 
-  body_written : (line : ℕ) (at_turn at_end : List (List ℕ)) → Each (λ x. (has_name x (variables u) ≡ true) × (a (plain x) ≡ true)) at_turn → Each (λ x. (has_name x (variables u) ≡ true) × (a (plain x) ≡ true)) at_end → OverCode HasName Whole Any (adjoint_body_with sc p i line u.body at_turn at_end)
+  body_written : (line : ℕ) (at_turn at_end : List (List ℕ)) → Each (λ x. (has_name x (variables u) ≡ true) × (a (plain x) ≡ true)) at_turn → Each (λ x. (has_name x (variables u) ≡ true) × (a (plain x) ≡ true)) at_end → OverCode InTable Whole Any (adjoint_body_with sc p i line u.body at_turn at_end)
   body_written line at_turn at_end turned ended =
-      body_over HasName Whole Any sc p allows (works_used p.marks i u.body) (temps_used p.marks i u.body) (λ k low high. helper_stands (helper work k) (used_works sc p i u.body k low high)) (λ k low high. helper_stands (helper temp k) (used_temps sc p i u.body k low high)) i line u.body at_turn at_end follows (source_formed adjoint_text units u a hs written free (used_helpers_with sc p i u.body) ps kernel calls) (all_helped sc p i u.body HasName helper_stands) (omega arith) (omega arith) (stand at_turn turned) (stand at_end ended)
+      body_over InTable Whole Any sc p allows (works_used p.marks i u.body) (temps_used p.marks i u.body) (λ k low high. helper_stands (helper work k) (used_works sc p i u.body k low high)) (λ k low high. helper_stands (helper temp k) (used_temps sc p i u.body k low high)) i line u.body at_turn at_end follows (source_formed adjoint_text units u a hs written free (used_helpers_with sc p i u.body) ps kernel calls) (all_helped sc p i u.body InTable helper_stands) (omega arith) (omega arith) (stand at_turn turned) (stand at_end ended)
     where
-      stand : (xs : List (List ℕ)) → Each (λ x. (has_name x (variables u) ≡ true) × (a (plain x) ≡ true)) xs → Each (λ x. HasName (plain x) None × (a (plain x) ≡ true)) xs
-      stand xs h = each_more (λ x. (has_name x (variables u) ≡ true) × (a (plain x) ≡ true)) (λ x. HasName (plain x) None × (a (plain x) ≡ true)) (λ x k. (has_plain (variables u) units a hs free (used_helpers_with sc p i u.body) x k.0, k.1)) xs h
+      stand : (xs : List (List ℕ)) → Each (λ x. (has_name x (variables u) ≡ true) × (a (plain x) ≡ true)) xs → Each (λ x. InTable (plain x) None × (a (plain x) ≡ true)) xs
+      stand xs h = each_more (λ x. (has_name x (variables u) ≡ true) × (a (plain x) ≡ true)) (λ x. InTable (plain x) None × (a (plain x) ≡ true)) (λ x k. (has_plain (variables u) units a hs free (used_helpers_with sc p i u.body) x k.0, k.1)) xs h
 
   pub unit_written : (at_turn at_end : List (List ℕ)) → IsName (adjoint_name ps u) → Each (λ x. (has_name x (variables u) ≡ true) × (a (plain x) ≡ true)) at_turn → Each (λ x. (has_name x (variables u) ≡ true) × (a (plain x) ≡ true)) at_end → IsWrittenProcedure (adjoint_unit_with sb m ps units u at_turn at_end)
   unit_written at_turn at_end named turned ended = made_written adjoint_text units u a hs written free (used_helpers_with sc p i u.body) (adjoint_name ps u) (adjoint_body_with sc p i u.line u.body at_turn at_end) named (body_written u.line at_turn at_end turned ended)

@@ -1,7 +1,7 @@
 -- The helpers that a unit's adjoint declares are those that its sweeps use.
 use Rattle.std.proofs.Common.{◌≡◌, ℕ, suc, ◌<◌, ◌≤◌, Bool, true, false, List, [], ◌∷◌, ◌++◌, refl, sym, ◌∙◌, arith, if◌then◌else◌}
 use Rattle.std.specs.Prelude.{◌&&◌, ◌||◌, ◌==◌, not, Option, Some, None}
-use Rattle.adj_tree.specs.Code.{Var, helper, work, temp, control, first, stride, count, turn, entry, entries, kind, lower, upper, slots, Role, Mark, Act, assign, choose, loop, during, call, runtime, Code, stop, step}
+use Rattle.adj_tree.specs.Code.{Var, helper, work, temp, control, first, stride, count, turn, entry, entries, kind, lower, upper, slots, Role, Act, assign, choose, loop, during, call, runtime, Code, stop, step}
 use Rattle.adj_tree.proofs.Names.{nat_same}
 use Rattle.def_names.specs.Numbers.{next, behind}
 use Rattle.def_sweep.specs.Declared.{helpers_from}

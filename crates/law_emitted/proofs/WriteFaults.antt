@@ -50,7 +50,7 @@ either true b c f g h = f refl
 either false b c f g h = g h
 
 -- an adjoint has the extents of its unit
-made_extent : (d : List ℕ) (sh : Vars) (ns : List Named) (u : Procedure) (xs : List (List ℕ)) (hs : List Var) → is_extent d (declared_behind sh ns u xs ++ declared_helpers ns u.line hs) ≡ true → is_extent d u.declarations ≡ true
+pub made_extent : (d : List ℕ) (sh : Vars) (ns : List Named) (u : Procedure) (xs : List (List ℕ)) (hs : List Var) → is_extent d (declared_behind sh ns u xs ++ declared_helpers ns u.line hs) ≡ true → is_extent d u.declarations ≡ true
 made_extent d sh ns u [] [] h = absurd cc
 made_extent d sh ns u [] (v ∷ hs) h = made_extent d sh ns u [] hs h
 made_extent d sh ns u (x ∷ xs) hs h = go (sh (plain x)) h (made_extent d sh ns u xs hs)
@@ -69,7 +69,7 @@ made_extent d sh ns u (x ∷ xs) hs h = go (sh (plain x)) h (made_extent d sh ns
 -- ---- loops of carried units
 
 module _ (f g : Dummies) (inside : List ℕ → Bool) (less : (c : Code) → CallsInside inside c → (v : Var) → writes f v c ≡ true → writes g v c ≡ true) where
-  still : (c : Code) → CallsInside inside c → (v : Var) → writes g v c ≡ false → writes f v c ≡ false
+  pub still : (c : Code) → CallsInside inside c → (v : Var) → writes g v c ≡ false → writes f v c ≡ false
   still c k v h = not_true (writes f v c) (λ e. let z : true ≡ false = sym (less c k v e) ∙ h in cc)
 
   still_spares : (a : Act) → CallsInside' inside a → Spares g a → Spares f a
@@ -89,17 +89,17 @@ module _ (f g : Dummies) (inside : List ℕ → Bool) (less : (c : Code) → Cal
     still_inner (call name args) k h = tt
     still_inner (runtime r) k h = tt
 
-    still_spared : (c : Code) → CallsInside inside c → AreSpared g c → AreSpared f c
+    pub still_spared : (c : Code) → CallsInside inside c → AreSpared g c → AreSpared f c
     still_spared stop k h = tt
     still_spared (step line a rest) k h = (still_spares a k.0 h.0, (still_inner a k.0 h.1.0, still_spared rest k.1 h.1.1))
 
 -- ---- the emitted program
 
 -- a unit of the source has no such fault
-abbrev IsTame : List Procedure → Procedure → Type 0
+abbrev pub IsTame : List Procedure → Procedure → Type 0
 IsTame ps u = AreSpared (handed_back ps) u.body × KeepsExtents (handed_back ps) u
 
-tame_of : (ps : List Procedure) (u : Procedure) → faults_of_writes (handed_back ps) u ≡ [] → IsTame ps u
+pub tame_of : (ps : List Procedure) (u : Procedure) → faults_of_writes (handed_back ps) u ≡ [] → IsTame ps u
 tame_of ps u h = (
   spared_of (handed_back ps) u (none_front (written_variables (handed_back ps) u) _ h),
   kept_of (handed_back ps) u (none_front (written_extents (handed_back ps) u) _ (none_behind (written_variables (handed_back ps) u) _ h)),

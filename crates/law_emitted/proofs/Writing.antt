@@ -12,8 +12,8 @@ use Rattle.def_sweep.specs.Marked.{code_if}
 use Rattle.def_names.proofs.Variables.{and_true, or_left, or_right}
 use Rattle.def_sweep.specs.AdjointOf.{adjoint_where}
 use Rattle.def_sweep.specs.Plan.{Callee, Plan, is_emitted, names_of, actuals_named, group, save_group, snapshot_group, step_snapshot, found_or, Schedules, Step, reversed_by, ByStep}
-use Rattle.def_sweep.specs.ReversalCode.{at_turn, arm, advance, arms, one_action, reversal, slots_of, set_slots, push_slots, pop_slots, reversed_forward, reversed_backward, row_forward, row_backward}
-use Rattle.def_sweep.specs.Rows.{is_empty, push, pop, pushes, pops, literal, adjoint_call, with_shadows, told_forward, told_backward, loop_forward, loop_backward, while_forward, while_backward, reset, push_own, pop_own}
+use Rattle.def_sweep.specs.ReversalCode.{at_turn, arm, advance, arms, reversal, slots_of, set_slots, push_slots, pop_slots, reversed_forward, reversed_backward, row_forward, row_backward}
+use Rattle.def_sweep.specs.Rows.{is_empty, push, pop, pushes, pops, literal, adjoint_call, with_shadows, told_forward, told_backward, loop_forward, loop_backward, while_forward, while_backward, reset}
 use Rattle.def_sweep.specs.Emission.{forward_act_with, forward_with, backward_act_with, backward_with, cleared, adjoint_body_with}
 use Rattle.def_sweep.proofs.UnsplitRows.{unsplit_forward, unsplit_backward}
 use Rattle.law_emitted.proofs.Lists.{Each}

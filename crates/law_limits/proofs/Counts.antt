@@ -1,5 +1,5 @@
 -- A program has at most two statements for each statement of which it is read.
-use Rattle.std.proofs.Common.{◌≤◌, ℕ, ◌+◌, ◌*◌, Bool, true, List, [], ◌∷◌, length, arith}
+use Rattle.std.proofs.Common.{◌≤◌, ℕ, ◌+◌, Bool, List, [], ◌∷◌, arith}
 use Rattle.adj_tree.specs.Code.{Act, Code, Declaration, Procedure}
 use Rattle.def_text.specs.Block as blocks
 use Rattle.def_text.specs.Block.{ReadsBody, ReadsAct, ReadsElse}

@@ -7,7 +7,7 @@ use Rattle.adj_tree.proofs.Names.{name_same}
 use Rattle.def_meaning.specs.Apart.{has_name}
 use Rattle.def_names.specs.Fresh.{digits, candidate, first_free, fresh}
 use Rattle.def_names.proofs.Fresh.{digits-one, digits-last, candidates_apart}
-use Rattle.law_limits.specs.Lengths.{HasCandidates, FreshIsShort}
+use Rattle.law_limits.specs.Lengths.{FreshIsShort}
 
 -- a number below a power of ten has so many digits at most
 pub digits_short : (k n : ℕ) → n < 10 ^ suc k → length (digits n) ≤ suc k

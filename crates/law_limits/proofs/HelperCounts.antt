@@ -41,7 +41,7 @@ module _ (sc : Schedules) (p : Plan) where
 
 -- ---- work variables
 
-works_if : (b : Bool) (k m : ℕ) → k ≤ m → (if b then k else 0) ≤ m
+pub works_if : (b : Bool) (k m : ℕ) → k ≤ m → (if b then k else 0) ≤ m
 works_if true k m h = h
 works_if false k m h = omega arith
 
@@ -82,23 +82,24 @@ module _ (m : Marks) (n : ℕ) where
 doubled : (k : ℕ) → 2 ^ (k + 1) ≡ 2 ^ k * 2
 doubled k = let e : k + 1 ≡ suc k = omega arith in ap (λ j. 2 ^ j) e ∙ pow-suc 2 k
 
-grown : (j k : ℕ) → j ≤ k → 2 ^ j ≤ 2 ^ k
+pub grown : (j k : ℕ) → j ≤ k → 2 ^ j ≤ 2 ^ k
 grown j k h = pow_mono h
 
-one_more : (b : Bool) → count_of b ≤ 1
+pub one_more : (b : Bool) → count_of b ≤ 1
 one_more true = omega arith
 one_more false = omega arith
 
+-- what an operator adds to those of its operands
+pub joined : (a b s t extra : ℕ) → s + 2 ≤ 2 ^ a → t + 2 ≤ 2 ^ b → extra ≤ 2 → s + t + extra + 2 ≤ 2 ^ (max a b + 1)
+joined a b s t extra h g e = let p = grown a (max a b) (omega arith) in let q = grown b (max a b) (omega arith) in let r = doubled (max a b) in omega arith
+
+pub raised : (a s extra : ℕ) → s + 2 ≤ 2 ^ a → extra ≤ 2 → s + extra + 2 ≤ 2 ^ (a + 1)
+raised a s extra h e = let r = doubled a in omega arith
+
+pub some : (k : ℕ) → 0 + 2 ≤ 2 ^ (k + 1)
+some k = let p = grown 1 (k + 1) (omega arith) in omega arith
+
 module _ (on : Vars) where
-  joined : (a b s t extra : ℕ) → s + 2 ≤ 2 ^ a → t + 2 ≤ 2 ^ b → extra ≤ 2 → s + t + extra + 2 ≤ 2 ^ (max a b + 1)
-  joined a b s t extra h g e = let p = grown a (max a b) (omega arith) in let q = grown b (max a b) (omega arith) in let r = doubled (max a b) in omega arith
-
-  raised : (a s extra : ℕ) → s + 2 ≤ 2 ^ a → extra ≤ 2 → s + extra + 2 ≤ 2 ^ (a + 1)
-  raised a s extra h e = let r = doubled a in omega arith
-
-  some : (k : ℕ) → 0 + 2 ≤ 2 ^ (k + 1)
-  some k = let p = grown 1 (k + 1) (omega arith) in omega arith
-
   pub term_temps : (e : Term) → temps_in_where on e + 2 ≤ 2 ^ term_depth e
   term_temps (lit z) = some 0
   term_temps (var x) = some 0

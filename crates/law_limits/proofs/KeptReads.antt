@@ -1,7 +1,5 @@
 -- What is written for a program that keeps the limits of a run reads in Run mode.
-use Rattle.std.proofs.Common.{◌≡◌, inl, inr, List, Result, Ok, refl, sym, ap, ◌∙◌, true}
-use Rattle.adj_tree.specs.Code.{Procedure}
-use Rattle.def_text.specs.Limits.{limits_of}
+use Rattle.std.proofs.Common.{◌≡◌, inl, inr, sym, ap, ◌∙◌, true}
 use Rattle.def_text.specs.Refused.{◌>>=◌}
 use Rattle.def_text.specs.Text.{text_of}
 use Rattle.def_text.specs.declared.mode.Mode.TheVariants.{Run}

@@ -1,8 +1,8 @@
 -- The variables of a kernel have short names.
-use Rattle.std.proofs.Common.{◌≡◌, ◌≤◌, ◌<◌, ◌^◌, ◌⊎◌, inl, inr, ℕ, zero, suc, ◌+◌, Bool, true, false, List, [], ◌∷◌, ◌++◌, length, map, flat_map, refl, sym, ap, ap₂, subst, ◌∙◌, arith, length-append, pow-suc, codes, if◌then◌else◌, Some, None}
+use Rattle.std.proofs.Common.{◌≡◌, ◌≤◌, ◌<◌, ◌^◌, inl, inr, ℕ, zero, suc, ◌+◌, Bool, true, false, List, [], ◌∷◌, ◌++◌, length, map, flat_map, refl, sym, ap, subst, ◌∙◌, arith, length-append, pow-suc, codes, if◌then◌else◌}
 use Rattle.std.specs.Prelude.{◌||◌, not, filter, ℤ}
 use Rattle.std.proofs.lemmas.Bool.{or_left, or_right, or_cases, cases_lt}
-use Rattle.adj_tree.specs.Code.{Var, plain, shadow, helper, var_eq, Term, Terms, lit, var, elem, neg, bin, pow, power_of, abs, none, more, name_eq, unmarked, with_count, count_from, Act, Code, assign, choose, loop, during, call, runtime, stop, step, Declaration, Procedure}
+use Rattle.adj_tree.specs.Code.{Var, plain, shadow, helper, Term, Terms, lit, var, elem, neg, bin, pow, power_of, abs, none, more, name_eq, unmarked, with_count, count_from, Act, Code, assign, choose, loop, during, call, runtime, stop, step, Declaration, Procedure}
 use Rattle.adj_tree.proofs.Names.{name_refl, name_same}
 use Rattle.def_meaning.specs.Written.{handed_back}
 use Rattle.def_meaning.proofs.Variables.{var_same}
@@ -15,12 +15,11 @@ use Rattle.def_names.specs.Reserved.{reserved}
 use Rattle.def_names.proofs.NameLists.{has-append}
 use Rattle.def_names.proofs.Fresh.{fresh-is_free}
 use Rattle.law_kernel.specs.Apart.{EachCall', EachCall}
-use Rattle.def_kernel.specs.Calls.{is_name_of, stands_whole}
-use Rattle.def_kernel.specs.Kernel.{declared_names, names_in_code, names_of, wanted_local, local_names, local_of, unit_name, taken_in, local_in, scalar_at, locals_count, lowered_unit, EachUnit}
-use Rattle.def_kernel.specs.Stepped.{once_each, variables_of, used_among, is_extent_of, step_dummies, as_actuals, step_declarations, marked_in, marked_in_act, step_name, step_names, cut_act, cut, step_unit, step_units_in_act, step_units_in, stepped_unit, stepped_from, names_of_source, stepped_program, kernel_of}
-use Rattle.law_kernel.specs.Sound.{IsAccepted}
-use Rattle.law_kernel.proofs.Faultless.{Each, each_front, each_behind, each_join, each_flat, flat_each, unit_each, of_each, join_units}
-use Rattle.law_kernel.proofs.Holding.{HoldsIn, Holds, there, listed, holding}
+use Rattle.def_kernel.specs.Calls.{is_name_of}
+use Rattle.def_kernel.specs.Kernel.{declared_names, names_in_code, names_of, wanted_local, local_names, unit_name, taken_in, local_in, scalar_at, locals_count, lowered_unit, EachUnit}
+use Rattle.def_kernel.specs.Stepped.{variables_of, used_among, is_extent_of, step_dummies, as_actuals, step_declarations, marked_in, marked_in_act, step_names, cut_act, cut, step_unit, step_units_in_act, step_units_in, stepped_unit, stepped_from, names_of_source, stepped_program}
+use Rattle.law_kernel.proofs.Faultless.{Each, each_front, each_behind, each_join, join_units}
+use Rattle.law_kernel.proofs.Holding.{HoldsIn, Holds, listed, holding}
 use Rattle.law_kernel.proofs.LoweredNames.{lowered_names}
 use Rattle.law_kernel.proofs.Repeated.{Once}
 use Rattle.law_kernel.proofs.OneNotion.{names_placed, one_notion}

@@ -28,7 +28,7 @@ pub mod Measures
 pub mod ReadableTexts
 pub mod HelperCounts
 pub mod TableLengths
-pub mod AdjointNames
+pub mod UnitNames
 pub mod StandingShort
 pub mod ShortVariables
 pub mod ShortEmitted

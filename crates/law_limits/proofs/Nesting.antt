@@ -1,5 +1,5 @@
 -- The blocks that are open while statements are read are no more than the units are deep that are read.
-use Rattle.std.proofs.Common.{◌≡◌, ◌≤◌, ◌<◌, ℕ, ◌+◌, max, Bool, true, false, eqb, cond, List, [], ◌∷◌, ◌++◌, length, Option, Some, None, refl, sym, ap, subst, ◌∙◌, arith}
+use Rattle.std.proofs.Common.{◌≡◌, ◌≤◌, ◌<◌, ℕ, ◌+◌, max, Bool, true, false, List, [], ◌∷◌, ◌++◌, length, Option, Some, None, refl, sym, subst, ◌∙◌, arith}
 use Rattle.std.specs.Prelude.{◌&&◌, ◌||◌, ◌==◌, not, nat_le}
 use Rattle.std.proofs.lemmas.Bool.{eqb-true, lt-leb}
 use Rattle.adj_tree.specs.Code.{Procedure}
@@ -7,11 +7,11 @@ use Rattle.adj_tree.specs.Size.{code_depth, IsNested}
 use Rattle.def_text.specs.Form.{Form, subroutine, implicit_none, integers, simple, logical, opens_do, opens_while, end_do, go_on, opens_if, otherwise, otherwise_if, end_if, leaves, ends, Statement, at}
 use Rattle.def_text.specs.declared.stated.Kind.{Kind}
 use Rattle.def_text.specs.declared.stated.Kind.TheVariants.{End}
-use Rattle.adj_parse.specs.Blocks.{Acts, Block}
-use Rattle.adj_parse.specs.Order.{may_follow, suits, leaves_loop, breaks_loop, opens_block}
-use Rattle.adj_parse.specs.Unit.{Current, Units, finished, continued, followed, open_blocks, is_misplaced}
+use Rattle.adj_parse.specs.Blocks.{Block}
+use Rattle.adj_parse.specs.Order.{may_follow, suits, leaves_loop, opens_block}
+use Rattle.adj_parse.specs.Unit.{Current, Units, finished, continued, followed, open_blocks}
 use Rattle.adj_parse.proofs.Machine.{kind_of, stands, units_of, run, picked}
-use Rattle.law_limits.proofs.Heights.{acts_depth, listed_depth, high, height, high_is, open_below, opening, acted_height}
+use Rattle.law_limits.proofs.Heights.{acts_depth, listed_depth, high, height, open_below, opening, acted_height}
 
 -- of the unit that is being read
 abbrev pub tall : Option Current → ℕ

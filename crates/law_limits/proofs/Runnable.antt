@@ -1,8 +1,9 @@
 -- What is emitted for the kernel of an accepted program that a text gives in Source mode keeps the limits of a run, and reads in Run mode.
-use Rattle.std.proofs.Common.{◌≡◌, ◌≤◌, ◌<◌, ◌^◌, ℕ, Bool, true, List, [], ◌∷◌, length, map, flat_map, drop, refl, arith, length-drop}
+use Rattle.std.proofs.Common.{◌≡◌, ◌≤◌, ◌<◌, ◌^◌, ℕ, Bool, true, List, [], ◌∷◌, length, map, flat_map, drop, Ok, refl, arith, length-drop}
 use Rattle.std.proofs.lemmas.Bool.{and_parts, and_from}
 use Rattle.adj_tree.specs.Code.{unmarked, with_count, count_from, Act, Code, assign, choose, loop, during, call, runtime, stop, step, Procedure}
 use Rattle.adj_tree.specs.Size.{IsNested}
+use Rattle.def_text.specs.declared.mode.Mode.TheVariants.{Source}
 use Rattle.def_names.specs.Fault.{source_rules, run_rules}
 use Rattle.def_names.specs.Statements.{At, statements}
 use Rattle.def_names.specs.Variables.{places, first_places, variables}
@@ -16,6 +17,7 @@ use Rattle.def_sweep.specs.Names.{adjoint_name}
 use Rattle.def_sweep.specs.Program.{emitted_units_with, emitted_for_with, emitted_program_with}
 use Rattle.def_kernel.specs.Kernel.{locals_count, lowered_unit, EachUnit}
 use Rattle.def_kernel.specs.Stepped.{marked_in_act, marked_in, stepped_program, kernel_of}
+use Rattle.law_kernel.specs.Sound.{IsAccepted}
 use Rattle.law_emitted.specs.Checked.{IsChecked}
 use Rattle.law_emitted.proofs.Lists.{Each, none_each}
 use Rattle.def_names.proofs.Faultless.{none_front, none_behind}
@@ -27,6 +29,7 @@ use Rattle.law_emitted.proofs.UnitFaults.{each_emitted}
 use Rattle.law_emitted.proofs.Programs.{marked_written}
 use Rattle.law_emitted.proofs.SoundPrograms.{marked_sound}
 use Rattle.law_emitted.proofs.Kernels.{kernel_checked}
+use Rattle.adj_parse.specs.Trees.{program_of}
 use Rattle.law_limits.specs.Rule.{procedure_keeps, keeps}
 use Rattle.law_limits.specs.Kept.{short_names, acts_in, acts_in_code, statements_in}
 use Rattle.law_limits.specs.Reading.{KeptReads, IsSource, SourceIsKept}
@@ -40,7 +43,7 @@ use Rattle.law_limits.proofs.Measures.{program_low}
 use Rattle.law_limits.proofs.ReadableTexts.{emitted_shallow}
 use Rattle.law_limits.proofs.StandingShort.{HasShort, unit_short}
 use Rattle.law_limits.proofs.ShortVariables.{variable_short, unit_passes}
-use Rattle.law_limits.proofs.AdjointNames.{adjoint_short}
+use Rattle.law_limits.proofs.UnitNames.{adjoint_short}
 use Rattle.law_limits.proofs.ShortEmitted.{IsModest, HasShortNames, carried_short, adjoints_short}
 
 -- ---- the source is small
@@ -132,6 +135,31 @@ modest ks (u ∷ us) s a k n d e = (
   modest ks us s.1 a.1 k.1 n.1 d.1 e.1,
 )
 
+-- what is known of it
+pub record IsModestKernel (ks : List Procedure) : Type 0 where
+  pub few_units : length ks ≤ 402000
+  pub names : EachUnit (λ u. length u.name ≤ 46) ks
+  pub short : EachUnit (λ u. AreShort 31 (variables u)) ks
+  pub units : Each (IsModest ks) ks
+
+pub kernel_modest : SourceIsKept → (bytes : List ℕ) (ps : List Procedure) → program_of Source bytes ≡ Ok ps → IsAccepted ps → EachUnit (λ v. length (variables v) ≤ 1073741823) (kernel_of ps) → IsModestKernel (kernel_of ps)
+kernel_modest source bytes ps h accepted known =
+    let s = source bytes ps h in
+    let kept = s.kept in
+    let ks = kernel_of ps in
+    let small = source_small ps s accepted.sound in
+    let units = kernel_units_short ps small in
+    let short = kernel_variables_short ps accepted small (units_variables ps (units_hold ps kept.names)) (few_locals (stepped_program ps) (stepped_program ps) known) in
+    let two : 2 ≤ 100 = omega arith in
+    let nested = kernel_nesting 30 ps kept.nested in
+    let shallow = kernel_depths 100 two ps (program_low 100 ps kept.depths) in
+    record {
+      few_units = units.few_units;
+      names = units.names;
+      short = short;
+      units = modest ks ks (all_names_sound run_rules ks (kernel_checked ps accepted)) short known units.names nested shallow;
+    }
+
 -- ---- the emitted program
 
 unit_names : (us : List Procedure) → Each HasShortNames us → Each (λ u. length u.name ≤ 63) us
@@ -150,7 +178,8 @@ module _ (qs : List Procedure) (all : Each HasShortNames qs) where
       and_from (procedure_keeps (short_names 63) u) (keeps (short_names 63) us)
       (unit_passes 63 qs (unit_names qs all) u s.known s.name extents (none_each (λ (t : At Act). faults_of_call qs u t.0 t.1) (statements u.body) c.0)) (units_pass us h.1 n.1 c.1)
 
-  program_passes : IsSound run_rules qs → keeps (short_names 63) qs ≡ true
+  -- a program without faults passes where its units are so
+  pub program_passes : IsSound run_rules qs → keeps (short_names 63) qs ≡ true
   program_passes sound =
       let none = sound_has_none run_rules qs sound in
       units_pass qs all (none_each (faults_of_names run_rules qs) qs none.names) (none_each (λ (u : Procedure). flat_map (λ s. faults_of_call qs u s.0 s.1) (statements u.body)) qs none.calls)
@@ -165,20 +194,12 @@ module _ (sb : Bool) (m : ProgramMarks) (ks : List Procedure) (vars outvars : Li
 
 pub emitted_runnable : KeptReads → SourceIsKept → (schedules : Bool) → EmittedIsRunnableWith schedules
 emitted_runnable reads source sb bytes ps h accepted known m unsplit shadows head vars outvars =
-    let s = source bytes ps h in
-    let kept = s.kept in
     let ks = kernel_of ps in
-    let small = source_small ps s accepted.sound in
-    let units = kernel_units_short ps small in
-    let short = kernel_variables_short ps accepted small (units_variables ps (units_hold ps kept.names)) (few_locals (stepped_program ps) (stepped_program ps) known) in
-    let two : 2 ≤ 100 = omega arith in
-    let nested = kernel_nesting 30 ps kept.nested in
-    let shallow = kernel_depths 100 two ps (program_low 100 ps kept.depths) in
+    let k = kernel_modest source bytes ps h accepted known in
     let checked = kernel_checked ps accepted in
     let few : run_rules.chain ≤ run_rules.chain = omega arith in
-    let each = modest ks ks (all_names_sound run_rules ks checked) short known units.names nested shallow in
-    let adjoints = adjoint_short ks units.few_units units.names short known in
+    let adjoints = adjoint_short ks k.few_units k.names k.short known in
     let sound = marked_sound run_rules ks checked few sb m unsplit shadows head vars outvars in
     let limits = emitted_shallow source sb bytes ps h m head vars outvars in
     reads (emitted_program_with sb m ks head vars outvars) (marked_written run_rules ks checked sb m unsplit shadows head vars outvars)
-    (record { names = emitted_short sb m ks vars outvars checked units.few_units adjoints each unsplit shadows (unit_at head ks) sound; depths = limits.depths; nested = limits.nested })
+    (record { names = emitted_short sb m ks vars outvars checked k.few_units adjoints k.units unsplit shadows (unit_at head ks) sound; depths = limits.depths; nested = limits.nested })

@@ -1,5 +1,5 @@
 -- The names of what is emitted for the kernel of an accepted program are short.
-use Rattle.std.proofs.Common.{◌≡◌, ◌≤◌, ℕ, Bool, true, false, List, [], ◌∷◌, length, map, refl, sym, ap, ◌∙◌, arith, length-append, if◌then◌else◌, subst}
+use Rattle.std.proofs.Common.{◌≡◌, ◌≤◌, ℕ, Bool, true, false, List, [], ◌∷◌, ◌++◌, length, map, refl, sym, ap, ◌∙◌, arith, length-append, if◌then◌else◌, subst}
 use Rattle.adj_tree.specs.Code.{Var, plain, shadow, name_eq, Declaration, Procedure}
 use Rattle.adj_tree.specs.Size.{code_depth}
 use Rattle.def_text.specs.Written.{IsName}
@@ -28,12 +28,12 @@ use Rattle.law_emitted.proofs.Programs.{cleared}
 use Rattle.law_emitted.proofs.Sources.{each_name, of_each, UnitSound}
 use Rattle.law_emitted.proofs.NameFaults.{NamesSound}
 use Rattle.law_emitted.proofs.AdjointNames.{places_declared}
-use Rattle.law_emitted.proofs.Tables.{among, has_shadow, has_helper}
+use Rattle.law_emitted.proofs.Tables.{among, has_var, has_shadow, has_helper}
 use Rattle.law_emitted.proofs.Used.{used_helpers_with}
 use Rattle.law_limits.proofs.HelperCounts.{list_loops, list_works, list_temps}
 use Rattle.law_limits.proofs.TableLengths.{Entry, name_short, table_short}
 
-abbrev Short : List ℕ → Type 0
+abbrev pub Short : List ℕ → Type 0
 Short x = length x ≤ 63
 
 declaration_name : (line : ℕ) (ds : List Declaration) (x : List ℕ) → (declaration line ds x).name ≡ x
@@ -48,9 +48,48 @@ made_count m unsplit ps head (u ∷ us) =
     subst (λ l. length l ≤ length (u ∷ us)) (sym (unsplit_names m unsplit ps head u us))
     (elim (has_adjoint m ps head u.name) as (λ b. length (if b then adjoint_name ps u ∷ made_names m ps head us else made_names m ps head us) ≤ length (u ∷ us)) [ true ↦ omega arith | false ↦ omega arith ])
 
-named_count : (us : List Procedure) → length (map unit_name us) ≡ length us
+pub named_count : (us : List Procedure) → length (map unit_name us) ≡ length us
 named_count [] = refl
 named_count (u ∷ us) = let rest = named_count us in omega arith
+
+-- ---- what a made unit declares
+
+-- where its table has the shadows of its source's variables that have one, and its helpers
+module _ (u : Procedure) (a : Vars) (hs : List Var) (ns : List Named) (ns_short : Each Entry ns) (short : (x : List ℕ) → has_name x (variables u) ≡ true → length x ≤ 31) (shadowed : (x : List ℕ) → has_name x (variables u) ≡ true → a (plain x) ≡ true → has_var (shadow x) ns ≡ true) (helped : (v : Var) → among v hs ≡ true → has_var v ns ≡ true) where
+  abbrev InNames : Declaration → Type 0
+  InNames d = Short d.name
+
+  behind_short : (xs : List (List ℕ)) → Each (λ x. has_name x (variables u) ≡ true) xs → Each InNames (declared_behind a ns u xs)
+  behind_short [] h = tt
+  behind_short (x ∷ xs) h =
+      let rest = behind_short xs h.1 in
+      let d = declaration u.line u.declarations x in
+      let le = short x h.0 in
+      let same : length d.name ≡ length x = ap length (declaration_name u.line u.declarations x) in
+      let own : length d.name ≤ 63 = omega arith in
+      elim (a (plain x)) as (λ b. a (plain x) ≡ b → Each InNames (if b then d ∷ record d { name = name_in ns (shadow x) } ∷ declared_behind a ns u xs else d ∷ declared_behind a ns u xs)) [ true ↦ λ e. (own, (name_short ns (shadow x) ns_short (shadowed x h.0 e), rest)) | false ↦ λ e. (own, rest) ] refl
+
+  helpers_short : (line : ℕ) (vs : List Var) → ((v : Var) → among v vs ≡ true → among v hs ≡ true) → Each InNames (declared_helpers ns line vs)
+  helpers_short line [] f = tt
+  helpers_short line (v ∷ vs) f = (name_short ns v ns_short (helped v (f v (or_left _ (among v vs) (var_refl v)))), helpers_short line vs (λ w h. f w (or_right _ (among w vs) h)))
+
+  pub declared_short : Each InNames (declared_behind a ns u (variables u) ++ declared_helpers ns u.line hs)
+  declared_short =
+      each_append InNames (declared_behind a ns u (variables u)) (declared_helpers ns u.line hs) (behind_short (variables u) (each_name (λ x. has_name x (variables u) ≡ true) (variables u) (λ x h. h))) (helpers_short u.line hs (λ w h. h))
+
+-- ---- the variables of a unit that declares them all
+
+module _ (v : Procedure) (short : Each (λ (d : Declaration). Short d.name) v.declarations) where
+  declared_names : (ds : List Declaration) → Each (λ (d : Declaration). Short d.name) ds → Each Short (map (λ d. d.name) ds)
+  declared_names [] h = tt
+  declared_names (d ∷ ds) h = (h.0, declared_names ds h.1)
+
+  at_places : (qs : List (At (List ℕ))) → Each (λ (p : At (List ℕ)). has_name p.1 (map (λ d. d.name) v.declarations) ≡ true) qs → Each Short (names_at qs)
+  at_places [] h = tt
+  at_places (q ∷ qs) h = (of_each Short (map (λ d. d.name) v.declarations) (declared_names v.declarations short) q.1 h.0, at_places qs h.1)
+
+  pub variables_short : Each (λ (p : At (List ℕ)). has_name p.1 (map (λ d. d.name) v.declarations) ≡ true) (places v) → (x : List ℕ) → has_name x (variables v) ≡ true → length x ≤ 63
+  variables_short declared x h = of_each Short (names_at (places v)) (at_places (places v) declared) x (sym (variables_stand v x) ∙ h)
 
 -- ---- the variables of an adjoint unit
 
@@ -64,49 +103,16 @@ module _ (sb : Bool) (m : ProgramMarks) (ps : List Procedure) (units : List (Lis
   abbrev ns : List Named
   ns = adjoint_names_with sb m ps units u
 
-  abbrev InNames : Declaration → Type 0
-  InNames d = Short d.name
-
-  behind_short : (xs : List (List ℕ)) → Each (λ x. has_name x (variables u) ≡ true) xs → Each InNames (declared_behind a ns u xs)
-  behind_short [] h = tt
-  behind_short (x ∷ xs) h =
-      let rest = behind_short xs h.1 in
-      let d = declaration u.line u.declarations x in
-      let le = short x h.0 in
-      let same : length d.name ≡ length x = ap length (declaration_name u.line u.declarations x) in
-      let own : length d.name ≤ 63 = omega arith in
-      elim (a (plain x)) as (λ b. a (plain x) ≡ b → Each InNames (if b then d ∷ record d { name = name_in ns (shadow x) } ∷ declared_behind a ns u xs else d ∷ declared_behind a ns u xs)) [
-        | true ↦ λ e. (own, (name_short ns (shadow x) ns_short (has_shadow (variables u) units a hs s.free (used_helpers_with (schedules_in sb ps) (plan_in m ps u) (first_statement ps u.name) u.body) x h.0 e), rest))
-        | false ↦ λ e. (own, rest)
-      ] refl
-
-  helpers_short : (line : ℕ) (vs : List Var) → ((v : Var) → among v vs ≡ true → among v hs ≡ true) → Each InNames (declared_helpers ns line vs)
-  helpers_short line [] f = tt
-  helpers_short line (v ∷ vs) f = (
-    name_short ns v ns_short (has_helper (variables u) units a hs s.free (used_helpers_with (schedules_in sb ps) (plan_in m ps u) (first_statement ps u.name) u.body) v (f v (or_left _ (among v vs) (var_refl v)))),
-    helpers_short line vs (λ w h. f w (or_right _ (among w vs) h)),
-  )
-
-  declared_names : (ds : List Declaration) → Each InNames ds → Each Short (map (λ d. d.name) ds)
-  declared_names [] h = tt
-  declared_names (d ∷ ds) h = (h.0, declared_names ds h.1)
+  all_declared : Each (λ (d : Declaration). Short d.name) (declared_behind a ns u (variables u) ++ declared_helpers ns u.line hs)
+  all_declared =
+      let helpers = used_helpers_with (schedules_in sb ps) (plan_in m ps u) (first_statement ps u.name) u.body in
+      declared_short u a hs ns ns_short short (has_shadow (variables u) units a hs s.free helpers) (has_helper (variables u) units a hs s.free helpers)
 
   module _ (unsplit : SplitsNothing m) (shadows : HasShadows (plan_in m ps u) (first_statement ps u.name) u.body) (named : Each (λ u. IsName u.name) ps) (at_turn at_end : List (List ℕ)) (turned : Each (λ x. (has_name x (variables u) ≡ true) × (m.shadowed u.name (plain x) ≡ true)) at_turn) (ended : Each (λ x. (has_name x (variables u) ≡ true) × (m.shadowed u.name (plain x) ≡ true)) at_end) where
-    abbrev v : Procedure
-    v = adjoint_unit_with sb m ps units u at_turn at_end
-
-    all_declared : Each Short (map (λ d. d.name) v.declarations)
-    all_declared =
-        declared_names v.declarations (each_append InNames (declared_behind a ns u (variables u)) (declared_helpers ns u.line hs) (behind_short (variables u) (each_name (λ x. has_name x (variables u) ≡ true) (variables u) (λ x h. h))) (helpers_short u.line hs (λ w h. h)))
-
-    at_places : (qs : List (At (List ℕ))) → Each (λ (p : At (List ℕ)). has_name p.1 (map (λ d. d.name) v.declarations) ≡ true) qs → Each Short (names_at qs)
-    at_places [] h = tt
-    at_places (q ∷ qs) h = (of_each Short (map (λ d. d.name) v.declarations) all_declared q.1 h.0, at_places qs h.1)
-
-    pub adjoint_variable : (x : List ℕ) → has_name x (variables v) ≡ true → length x ≤ 63
-    adjoint_variable x h =
-        of_each Short (names_at (places v))
-        (at_places (places v) (places_declared sb m ps units u s.written s.kernel s.free s.calls (follows_by m ps named u unsplit (schedules_in sb ps) (first_statement ps u.name) u.body s.calls shadows) n.dummies_once n.extent_dummy n.extents n.stands at_turn at_end turned ended)) x (sym (variables_stand v x) ∙ h)
+    pub adjoint_variable : (x : List ℕ) → has_name x (variables (adjoint_unit_with sb m ps units u at_turn at_end)) ≡ true → length x ≤ 63
+    adjoint_variable =
+        variables_short (adjoint_unit_with sb m ps units u at_turn at_end) all_declared
+        (places_declared sb m ps units u s.written s.kernel s.free s.calls (follows_by m ps named u unsplit (schedules_in sb ps) (first_statement ps u.name) u.body s.calls shadows) n.dummies_once n.extent_dummy n.extents n.stands at_turn at_end turned ended)
 
 -- ---- the emitted units
 
@@ -125,7 +131,7 @@ pub record HasShortNames (u : Procedure) : Type 0 where
   pub name : length u.name ≤ 63
   pub known : (x : List ℕ) → has_name x (variables u) ≡ true → length x ≤ 63
 
-each_short : (xs : List (List ℕ)) → ((x : List ℕ) → has_name x xs ≡ true → length x ≤ 31) → Each (λ x. length x ≤ 31) xs
+pub each_short : (xs : List (List ℕ)) → ((x : List ℕ) → has_name x xs ≡ true → length x ≤ 31) → Each (λ x. length x ≤ 31) xs
 each_short xs f = each_name (λ x. length x ≤ 31) xs f
 
 module _ (sb : Bool) (m : ProgramMarks) (ps : List Procedure) (head : Procedure) (vars outvars : List Bool) (named : Each (λ u. IsName u.name) ps) (less : length ps ≤ 402000) (adjoints : (u : Procedure) → length (adjoint_name ps u) ≤ 63) (unsplit : SplitsNothing m) where

@@ -1,5 +1,5 @@
 -- The names among the lexemes of a statement are those of what it says.
-use Rattle.std.proofs.Common.{◌≡◌, ◌≤◌, ℕ, Bool, true, List, [], ◌∷◌, refl, sym, ap, ap₂, ◌∙◌}
+use Rattle.std.proofs.Common.{◌≡◌, ◌≤◌, ℕ, Bool, true, List, refl, sym, ap, ◌∙◌}
 use Rattle.std.specs.Prelude.{◌&&◌, Option}
 use Rattle.std.specs.List.{list_all}
 use Rattle.adj_tree.specs.Code.{Var, Terms, none, Test, Mark, Act, Extent}
@@ -11,7 +11,7 @@ use Rattle.def_text.specs.Lexeme.{Lexeme}
 use Rattle.def_text.specs.declared.stated.Kind.{Kind}
 use Rattle.law_limits.specs.Rule.{act_keeps}
 use Rattle.law_limits.specs.Kept.{is_short, var_short, term_short, terms_short, test_short, mark_short, extent_short, short_names}
-use Rattle.law_limits.proofs.Truths.{and_true, and_group, and_group_three}
+use Rattle.law_limits.proofs.Truths.{and_true, and_group}
 use Rattle.law_limits.proofs.Keeping.{item_keeps, form_keeps}
 use Rattle.law_limits.proofs.ShortTerms.{lexemes_short, term_read, terms_read, test_read}
 use Rattle.law_limits.proofs.Actuals.{called_short}

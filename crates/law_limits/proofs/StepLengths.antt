@@ -8,11 +8,11 @@ use Rattle.def_meaning.specs.Apart.{has_name}
 use Rattle.def_names.specs.Fresh.{digits, candidate, fresh}
 use Rattle.def_names.proofs.NameLists.{has-append}
 use Rattle.def_kernel.specs.Kernel.{names_of, unit_name, lowered_unit, EachUnit}
-use Rattle.def_kernel.specs.Stepped.{marked_in_act, marked_in, once_each, variables_of, wanted_step, step_names, step_name, cut, step_units_in_act, step_units_in, stepped_unit, stepped_from, names_of_source, stepped_program, kernel_of}
+use Rattle.def_kernel.specs.Stepped.{marked_in_act, marked_in, once_each, variables_of, wanted_step, step_names, step_name, step_units_in_act, step_units_in, stepped_unit, stepped_from, names_of_source, stepped_program}
 use Rattle.law_kernel.proofs.OneNotion.{one_notion}
 use Rattle.law_kernel.proofs.StepNames.{listed_once}
 use Rattle.law_kernel.proofs.StepsWritten.{once_from}
-use Rattle.law_limits.specs.Lengths.{HasCandidates, marked_loops, IsSmall, HasShortUnits, KernelUnitsAreShort}
+use Rattle.law_limits.specs.Lengths.{HasCandidates, marked_loops, KernelUnitsAreShort}
 use Rattle.law_limits.proofs.FreshLengths.{digits_short, fresh_short}
 
 -- ---- the names of a source, each once in its unit

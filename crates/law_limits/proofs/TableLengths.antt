@@ -1,4 +1,4 @@
--- How long the names are that the variables of an adjoint unit get.
+-- How long the names are that the variables of a made unit get.
 use Rattle.std.proofs.Common.{◌≡◌, ◌≤◌, ◌<◌, ◌^◌, ℕ, zero, suc, ◌+◌, Bool, true, false, List, [], ◌∷◌, ◌++◌, length, map, refl, sym, ap, subst, ◌∙◌, arith, inl, inr, append_assoc, length-append, codes, if◌then◌else◌}
 use Rattle.std.specs.Prelude.{◌||◌, ◌==◌, not, Some, None}
 use Rattle.std.specs.List.{list_all}
@@ -9,7 +9,7 @@ use Rattle.adj_tree.specs.Code.{Role, work, temp, control, first, stride, count,
 use Rattle.def_meaning.specs.Apart.{has_name}
 use Rattle.def_names.specs.Fresh.{digits, candidate, fresh}
 use Rattle.def_names.specs.Reserved.{reserved}
-use Rattle.def_sweep.specs.Naming.{wanted, Named, own, named, unit_names, name_in}
+use Rattle.def_sweep.specs.Naming.{Derived, adjoint_text, tangent_text, mark_of, wanted_for, Named, own, named_for, named, unit_names_for, unit_names, name_in}
 use Rattle.def_names.specs.Numbers.{Vars}
 use Rattle.def_sweep.specs.Marked.{names_in}
 use Rattle.def_sweep.specs.Declared.{helpers_from}
@@ -17,7 +17,7 @@ use Rattle.def_names.proofs.Fresh.{digits_same, digits_pass}
 use Rattle.def_names.proofs.NameLists.{has-append}
 use Rattle.def_sweep.specs.Plan.{Plan, Schedules, Step}
 use Rattle.def_sweep.specs.Program.{works_used, temps_used, depth_used_with, tells_some_with, goes_back_with, reverses_by, any_step, has_slots, is_do, is_loop, helpers_among, loop_helpers_with, reversal_helpers, all_reversal_helpers, helpers_used_with}
-use Rattle.law_emitted.proofs.Lists.{Each, each_append}
+use Rattle.law_emitted.proofs.Lists.{Each, each_append, each_more}
 use Rattle.law_emitted.proofs.Sources.{of_each}
 use Rattle.law_emitted.proofs.Tables.{has_var}
 use Rattle.law_limits.proofs.FreshLengths.{digits_short, fresh_short, fresh_candidate}
@@ -32,41 +32,43 @@ name_short (p ∷ ps) v h e = elim (var_eq v p.variable) as (λ b. (b || has_var
 
 -- ---- what is wanted
 
-abbrev pub Modest : Var → Type 0
-Modest v = length (wanted v) ≤ 51
+-- a name of a moderate length
+abbrev pub Modest : Derived → Var → Type 0
+Modest o v = length (wanted_for o v) ≤ 51
 
 behind_letters : (w : List ℕ) (k : ℕ) → length w ≤ 3 → k < 10 ^ suc 47 → length (w ++ digits k) ≤ 51
 behind_letters w k h lt = let d = digits_short 47 k lt in let a = length-append w (digits k) in omega arith
 
-helper_modest : (r : Role) (k : ℕ) → k < 10 ^ suc 47 → Modest (helper r k)
-helper_modest work k lt = behind_letters (codes "ADW") k (omega arith) lt
-helper_modest temp k lt = behind_letters (codes "ADZ") k (omega arith) lt
-helper_modest control k lt = omega arith
-helper_modest first k lt = behind_letters (codes "ADM") k (omega arith) lt
-helper_modest stride k lt = behind_letters (codes "ADI") k (omega arith) lt
-helper_modest count k lt = behind_letters (codes "ADL") k (omega arith) lt
-helper_modest turn k lt = behind_letters (codes "ADJ") k (omega arith) lt
-helper_modest entry k lt = behind_letters (codes "ADK") k (omega arith) lt
-helper_modest entries k lt = behind_letters (codes "ADN") k (omega arith) lt
-helper_modest kind k lt = behind_letters (codes "ADA") k (omega arith) lt
-helper_modest lower k lt = behind_letters (codes "ADF") k (omega arith) lt
-helper_modest upper k lt = behind_letters (codes "ADT") k (omega arith) lt
-helper_modest slots k lt = behind_letters (codes "ADS") k (omega arith) lt
+helper_modest : (o : Derived) (r : Role) (k : ℕ) → k < 10 ^ suc 47 → Modest o (helper r k)
+helper_modest adjoint_text work k lt = behind_letters (codes "ADW") k (omega arith) lt
+helper_modest tangent_text work k lt = behind_letters (codes "ADY") k (omega arith) lt
+helper_modest o temp k lt = behind_letters (codes "ADZ") k (omega arith) lt
+helper_modest o control k lt = omega arith
+helper_modest o first k lt = behind_letters (codes "ADM") k (omega arith) lt
+helper_modest o stride k lt = behind_letters (codes "ADI") k (omega arith) lt
+helper_modest o count k lt = behind_letters (codes "ADL") k (omega arith) lt
+helper_modest o turn k lt = behind_letters (codes "ADJ") k (omega arith) lt
+helper_modest o entry k lt = behind_letters (codes "ADK") k (omega arith) lt
+helper_modest o entries k lt = behind_letters (codes "ADN") k (omega arith) lt
+helper_modest o kind k lt = behind_letters (codes "ADA") k (omega arith) lt
+helper_modest o lower k lt = behind_letters (codes "ADF") k (omega arith) lt
+helper_modest o upper k lt = behind_letters (codes "ADT") k (omega arith) lt
+helper_modest o slots k lt = behind_letters (codes "ADS") k (omega arith) lt
 
-from_modest : (r : Role) (k n : ℕ) → k + n ≤ 10 ^ suc 47 → Each Modest (helpers_from r k n)
-from_modest r k zero h = tt
-from_modest r k (suc n) h = (helper_modest r k (omega arith), from_modest r (suc k) n (omega arith))
+pub from_modest : (o : Derived) (r : Role) (k n : ℕ) → k + n ≤ 10 ^ suc 47 → Each (Modest o) (helpers_from r k n)
+from_modest o r k zero h = tt
+from_modest o r k (suc n) h = (helper_modest o r k (omega arith), from_modest o r (suc k) n (omega arith))
 
 from_count : (r : Role) (k n : ℕ) → length (helpers_from r k n) ≡ n
 from_count r k zero = refl
 from_count r k (suc n) = let rest = from_count r (suc k) n in omega arith
 
-among_modest : (f : ℕ → Bool) (r : Role) (k n : ℕ) → k + n ≤ 10 ^ suc 47 → Each Modest (helpers_among f r k n)
-among_modest f r k zero h = tt
-among_modest f r k (suc n) h =
-    let rest = among_modest f r (suc k) n (omega arith) in
-    let here = helper_modest r k (omega arith) in
-    elim (f k) as (λ b. Each Modest (if b then helper r k ∷ helpers_among f r (suc k) n else helpers_among f r (suc k) n)) [ true ↦ (here, rest) | false ↦ rest ]
+among_modest : (o : Derived) (f : ℕ → Bool) (r : Role) (k n : ℕ) → k + n ≤ 10 ^ suc 47 → Each (Modest o) (helpers_among f r k n)
+among_modest o f r k zero h = tt
+among_modest o f r k (suc n) h =
+    let rest = among_modest o f r (suc k) n (omega arith) in
+    let here = helper_modest o r k (omega arith) in
+    elim (f k) as (λ b. Each (Modest o) (if b then helper r k ∷ helpers_among f r (suc k) n else helpers_among f r (suc k) n)) [ true ↦ (here, rest) | false ↦ rest ]
 
 among_count : (f : ℕ → Bool) (r : Role) (k n : ℕ) → length (helpers_among f r k n) ≤ n
 among_count f r k zero = omega arith
@@ -74,14 +76,19 @@ among_count f r k (suc n) =
     let rest = among_count f r (suc k) n in
     elim (f k) as (λ b. length (if b then helper r k ∷ helpers_among f r (suc k) n else helpers_among f r (suc k) n) ≤ suc n) [ true ↦ omega arith | false ↦ omega arith ]
 
-shadows_modest : (a : Vars) (xs : List (List ℕ)) → Each (λ x. length x ≤ 31) xs → Each Modest (map shadow (names_in a xs))
-shadows_modest a [] h = tt
-shadows_modest a (x ∷ xs) h =
-    let rest = shadows_modest a xs h.1 in
-    let all = length-append x (codes "B") in
+one_letter : (o : Derived) → length (mark_of o) ≤ 1
+one_letter adjoint_text = omega arith
+one_letter tangent_text = omega arith
+
+shadows_modest : (o : Derived) (a : Vars) (xs : List (List ℕ)) → Each (λ x. length x ≤ 31) xs → Each (Modest o) (map shadow (names_in a xs))
+shadows_modest o a [] h = tt
+shadows_modest o a (x ∷ xs) h =
+    let rest = shadows_modest o a xs h.1 in
+    let all = length-append x (mark_of o) in
+    let one = one_letter o in
     let le : length x ≤ 31 = h.0 in
-    let here : Modest (shadow x) = omega arith in
-    elim (a (plain x)) as (λ b. Each Modest (map shadow (if b then x ∷ names_in a xs else names_in a xs))) [ true ↦ (here, rest) | false ↦ rest ]
+    let here : Modest o (shadow x) = omega arith in
+    elim (a (plain x)) as (λ b. Each (Modest o) (map shadow (if b then x ∷ names_in a xs else names_in a xs))) [ true ↦ (here, rest) | false ↦ rest ]
 
 shadows_count : (a : Vars) (xs : List (List ℕ)) → length (map shadow (names_in a xs)) ≤ length xs
 shadows_count a [] = omega arith
@@ -89,9 +96,9 @@ shadows_count a (x ∷ xs) =
     let rest = shadows_count a xs in
     elim (a (plain x)) as (λ b. length (map shadow (if b then x ∷ names_in a xs else names_in a xs)) ≤ length (x ∷ xs)) [ true ↦ omega arith | false ↦ omega arith ]
 
-control_modest : (b : Bool) → Each Modest (if b then helper control 0 ∷ [] else [])
-control_modest true = (omega arith, tt)
-control_modest false = tt
+control_modest : (o : Derived) (b : Bool) → Each (Modest o) (if b then helper control 0 ∷ [] else [])
+control_modest o true = (omega arith, tt)
+control_modest o false = tt
 
 control_count : (b : Bool) → length (if b then helper control 0 ∷ [] else []) ≤ 1
 control_count true = omega arith
@@ -100,37 +107,38 @@ control_count false = omega arith
 -- ---- names in order
 
 -- so many names are taken at most
-abbrev most : ℕ
+abbrev pub most : ℕ
 most = 10000000000
 
-fresh_modest : (taken : List (List ℕ)) (v : Var) → Modest v → length taken < 10 ^ suc 10 → length (fresh (wanted v) taken) ≤ 63
-fresh_modest taken v h lt = let f = fresh_short 10 (wanted v) taken taken (λ j e. e) lt in omega arith
+module _ (o : Derived) where
+  fresh_modest : (taken : List (List ℕ)) (v : Var) → Modest o v → length taken < 10 ^ suc 10 → length (fresh (wanted_for o v) taken) ≤ 63
+  fresh_modest taken v h lt = let f = fresh_short 10 (wanted_for o v) taken taken (λ j e. e) lt in omega arith
 
-simple : (taken : List (List ℕ)) (vs : List Var) → Each Modest vs → length taken + length vs ≤ most → Each Entry (named taken vs)
-simple taken [] h le = tt
-simple taken (v ∷ vs) h le =
-    let x = fresh (wanted v) taken in
-    let all = length-append taken (x ∷ []) in
-    (fresh_modest taken v h.0 (omega arith), simple (taken ++ x ∷ []) vs h.1 (omega arith))
+  simple : (taken : List (List ℕ)) (vs : List Var) → Each (Modest o) vs → length taken + length vs ≤ most → Each Entry (named_for o taken vs)
+  simple taken [] h le = tt
+  simple taken (v ∷ vs) h le =
+      let x = fresh (wanted_for o v) taken in
+      let all = length-append taken (x ∷ []) in
+      (fresh_modest taken v h.0 (omega arith), simple (taken ++ x ∷ []) vs h.1 (omega arith))
 
-joined : (taken : List (List ℕ)) (vs ws : List Var) → Each Entry (named taken vs) → ((more : List (List ℕ)) → length more ≡ length vs → Each Entry (named (taken ++ more) ws)) → Each Entry (named taken (vs ++ ws))
-joined taken [] ws h f = let P : List (List ℕ) → Type 0 = λ xs. Each Entry (named xs ws) in subst P (append-nil taken) (f [] refl)
-joined taken (v ∷ vs) ws h f =
-    let x = fresh (wanted v) taken in
-    let P : List (List ℕ) → Type 0 = λ xs. Each Entry (named xs ws) in
-    (h.0, joined (taken ++ x ∷ []) vs ws h.1 (λ more e. subst P (sym (append_assoc taken (x ∷ []) more)) (f (x ∷ more) (omega arith))))
+  joined : (taken : List (List ℕ)) (vs ws : List Var) → Each Entry (named_for o taken vs) → ((more : List (List ℕ)) → length more ≡ length vs → Each Entry (named_for o (taken ++ more) ws)) → Each Entry (named_for o taken (vs ++ ws))
+  joined taken [] ws h f = let P : List (List ℕ) → Type 0 = λ xs. Each Entry (named_for o xs ws) in subst P (append-nil taken) (f [] refl)
+  joined taken (v ∷ vs) ws h f =
+      let x = fresh (wanted_for o v) taken in
+      let P : List (List ℕ) → Type 0 = λ xs. Each Entry (named_for o xs ws) in
+      (h.0, joined (taken ++ x ∷ []) vs ws h.1 (λ more e. subst P (sym (append_assoc taken (x ∷ []) more)) (f (x ∷ more) (omega arith))))
 
--- some modest ones, and others behind them
-before : (taken : List (List ℕ)) (vs ws : List Var) → Each Modest vs → length taken + length vs ≤ most → ((later : List (List ℕ)) → length later ≤ length taken + length vs → Each Entry (named later ws)) → Each Entry (named taken (vs ++ ws))
-before taken vs ws h le f = joined taken vs ws (simple taken vs h le) (λ more e. let all = length-append taken more in f (taken ++ more) (omega arith))
+  -- some modest ones, and others behind them
+  before : (taken : List (List ℕ)) (vs ws : List Var) → Each (Modest o) vs → length taken + length vs ≤ most → ((later : List (List ℕ)) → length later ≤ length taken + length vs → Each Entry (named_for o later ws)) → Each Entry (named_for o taken (vs ++ ws))
+  before taken vs ws h le f = joined taken vs ws (simple taken vs h le) (λ more e. let all = length-append taken more in f (taken ++ more) (omega arith))
 
--- ---- temporaries: no name of one is a candidate for another
+-- ---- any number of variables that want names of their own without an underscore: no name of one is a candidate for another
 
-abbrev stem : List ℕ → List ℕ
+abbrev pub stem : List ℕ → List ℕ
 stem [] = []
 stem (c ∷ cs) = if c == 95 then [] else c ∷ stem cs
 
-abbrev bare : List ℕ → Bool
+abbrev pub bare : List ℕ → Bool
 bare = list_all (λ c. not (c == 95))
 
 not_one : (b : Bool) → not b ≡ true → b ≡ false
@@ -149,42 +157,80 @@ stem_candidate : (b : List ℕ) (j : ℕ) → bare b ≡ true → stem (candidat
 stem_candidate b zero h = stem_whole b h
 stem_candidate b (suc j) h = stem_bare b (digits (suc j)) h
 
-temp_bare : (k : ℕ) → bare (wanted (helper temp k)) ≡ true
-temp_bare = digits_pass (λ c. not (c == 95)) (λ d h. grind (arith, nat_tests))
+digits_bare : (k : ℕ) → bare (digits k) ≡ true
+digits_bare = digits_pass (λ c. not (c == 95)) (λ d h. grind (arith, nat_tests))
 
--- names of temporaries before the k-th
-abbrev IsEarlier : ℕ → List ℕ → Type 0
-IsEarlier k x = (j : ℕ) × (j < k) × (stem x ≡ wanted (helper temp j))
+module _ (o : Derived) where
+  -- none of the variables wants this name
+  abbrev pub Unwanted : List Var → List ℕ → Type 0
+  Unwanted vs x = Each (λ v. x ≡ wanted_for o v → ⊥) vs
 
-earlier_more : (k : ℕ) (xs : List (List ℕ)) → Each (IsEarlier k) xs → Each (IsEarlier (suc k)) xs
-earlier_more k [] h = tt
-earlier_more k (x ∷ xs) h = let e = h.0 in ((e.0, omega (arith, e.1), e.2), earlier_more k xs h.1)
+  -- each wants a name of its own
+  abbrev pub WantOwn : List Var → Type 0
+  WantOwn [] = Unit {0}
+  WantOwn (v ∷ vs) = Unwanted vs (wanted_for o v) × WantOwn vs
 
-earlier_push : (k : ℕ) (xs : List (List ℕ)) (x : List ℕ) → Each (IsEarlier k) xs → IsEarlier k x → Each (IsEarlier k) (xs ++ x ∷ [])
-earlier_push k [] x h e = (e, tt)
-earlier_push k (y ∷ xs) x h e = (h.0, earlier_push k xs x h.1 e)
+  pub own_append : (vs ws : List Var) → WantOwn vs → WantOwn ws → Each (λ v. Unwanted ws (wanted_for o v)) vs → WantOwn (vs ++ ws)
+  own_append [] ws h g f = g
+  own_append (v ∷ vs) ws h g f = (each_append (λ w. wanted_for o v ≡ wanted_for o w → ⊥) vs ws h.0 f.0, own_append vs ws h.1 g f.1)
 
-temps_apart : (k j : ℕ) → wanted (helper temp k) ≡ wanted (helper temp j) → k ≡ j
-temps_apart k j e = let d : digits k ≡ digits j = cc in digits_same k j d
+  -- a name without an underscore
+  abbrev pub IsBare : Var → Type 0
+  IsBare v = bare (wanted_for o v) ≡ true
 
-temps_short : (base : List (List ℕ)) → length base ≤ most → (k n : ℕ) → k + n ≤ 10 ^ suc 47 → (earlier : List (List ℕ)) → Each (IsEarlier k) earlier → Each Entry (named (base ++ earlier) (helpers_from temp k n))
-temps_short base few k zero le earlier h = tt
-temps_short base few k (suc n) le earlier h =
-    let b = wanted (helper temp k) in
-    let x = fresh b (base ++ earlier) in
-    let f = fresh_short 10 b base (base ++ earlier) (λ i e.
-    elim (or_cases (has_name (candidate b i) base) (has_name (candidate b i) earlier) (sym (has-append (candidate b i) base earlier) ∙ e)) [
-      | inl g ↦ g
-      | inr g ↦
-          let m = of_each (IsEarlier k) earlier h (candidate b i) g in
-          let same = temps_apart k m.0 (sym (stem_candidate b i (temp_bare k)) ∙ m.2) in
-          absurd (omega (arith, m.1))
-    ]) (omega arith) in
-    let modest = helper_modest temp k (omega arith) in
-    let c = fresh_candidate b (base ++ earlier) in
-    let now : IsEarlier (suc k) x = (k, omega arith, ap stem c.1 ∙ stem_candidate b c.0 (temp_bare k)) in
-    let P : List (List ℕ) → Type 0 = λ xs. Each Entry (named xs (helpers_from temp (suc k) n)) in
-    (omega arith, subst P (sym (append_assoc base earlier (x ∷ []))) (temps_short base few (suc k) n (omega arith) (earlier ++ x ∷ []) (earlier_push (suc k) earlier x (earlier_more k earlier h) now)))
+  -- a name that was made earlier: none wants what stands before its underscore
+  abbrev pub Earlier : List Var → List ℕ → Type 0
+  Earlier vs x = Unwanted vs (stem x)
+
+  pub bare_short : (base : List (List ℕ)) → length base ≤ most → (vs : List Var) → Each (Modest o) vs → Each IsBare vs → WantOwn vs → (earlier : List (List ℕ)) → Each (Earlier vs) earlier → Each Entry (named_for o (base ++ earlier) vs)
+  bare_short base few [] m b w earlier h = tt
+  bare_short base few (v ∷ vs) m b w earlier h =
+      let a = wanted_for o v in
+      let x = fresh a (base ++ earlier) in
+      let f = fresh_short 10 a base (base ++ earlier) (λ i e.
+      elim (or_cases (has_name (candidate a i) base) (has_name (candidate a i) earlier) (sym (has-append (candidate a i) base earlier) ∙ e)) [
+        | inl g ↦ g
+        | inr g ↦ let wanted_by = of_each (Earlier (v ∷ vs)) earlier h (candidate a i) g in absurd (wanted_by.0 (stem_candidate a i b.0))
+      ]) (omega arith) in
+      let modest : Modest o v = m.0 in
+      let c = fresh_candidate a (base ++ earlier) in
+      let now : Earlier vs x = subst (Unwanted vs) (sym (ap stem c.1 ∙ stem_candidate a c.0 b.0)) w.0 in
+      let P : List (List ℕ) → Type 0 = λ xs. Each Entry (named_for o xs vs) in
+      (omega arith, subst P (sym (append_assoc base earlier (x ∷ []))) (bare_short base few vs m.1 b.1 w.1 (earlier ++ x ∷ []) (each_append (Earlier vs) earlier (x ∷ []) (each_more (Earlier (v ∷ vs)) (Earlier vs) (λ y k. k.1) earlier h) (now, tt))))
+
+  -- helpers of a role, whose names differ in their numbers
+  module _ (r : Role) (same : (k j : ℕ) → wanted_for o (helper r k) ≡ wanted_for o (helper r j) → k ≡ j) where
+    later_unwanted : (i k n : ℕ) → i < k → Unwanted (helpers_from r k n) (wanted_for o (helper r i))
+    later_unwanted i k zero lt = tt
+    later_unwanted i k (suc n) lt = ((λ e. let one = same i k e in absurd (omega arith)), later_unwanted i (suc k) n (omega arith))
+
+    pub from_own : (k n : ℕ) → WantOwn (helpers_from r k n)
+    from_own k zero = tt
+    from_own k (suc n) = (later_unwanted k (suc k) n (omega arith), from_own (suc k) n)
+
+-- what holds of each helper of a role
+pub from_each : (P : Var → Type 0) (r : Role) → ((j : ℕ) → P (helper r j)) → (k n : ℕ) → Each P (helpers_from r k n)
+from_each P r f k zero = tt
+from_each P r f k (suc n) = (f k, from_each P r f (suc k) n)
+
+pub work_bare : (o : Derived) (k : ℕ) → IsBare o (helper work k)
+work_bare adjoint_text = digits_bare
+work_bare tangent_text = digits_bare
+
+pub temp_bare : (o : Derived) (k : ℕ) → IsBare o (helper temp k)
+temp_bare o = digits_bare
+
+pub works_apart : (o : Derived) (k j : ℕ) → wanted_for o (helper work k) ≡ wanted_for o (helper work j) → k ≡ j
+works_apart adjoint_text k j e = let d : digits k ≡ digits j = cc in digits_same k j d
+works_apart tangent_text k j e = let d : digits k ≡ digits j = cc in digits_same k j d
+
+pub temps_apart : (o : Derived) (k j : ℕ) → wanted_for o (helper temp k) ≡ wanted_for o (helper temp j) → k ≡ j
+temps_apart o k j e = let d : digits k ≡ digits j = cc in digits_same k j d
+
+pub temps_short : (o : Derived) (base : List (List ℕ)) → length base ≤ most → (n : ℕ) → 1 + n ≤ 10 ^ suc 47 → Each Entry (named_for o base (helpers_from temp 1 n))
+temps_short o base few n le =
+    let P : List (List ℕ) → Type 0 = λ xs. Each Entry (named_for o xs (helpers_from temp 1 n)) in
+    subst P (append-nil base) (bare_short o base few (helpers_from temp 1 n) (from_modest o temp 1 n le) (from_each (IsBare o) temp (temp_bare o) 1 n) (from_own o temp (temps_apart o) 1 n) [] tt)
 
 -- ---- a unit's table
 
@@ -196,25 +242,34 @@ entries_join : (ps qs : List Named) → Each Entry ps → Each Entry qs → Each
 entries_join [] qs h g = g
 entries_join (p ∷ ps) qs h g = (h.0, entries_join ps qs h.1 g)
 
+-- of a unit whose helpers get short names
+pub table_short_for : (o : Derived) (hs : List Var) → ((taken : List (List ℕ)) → length taken ≤ 9000000000 → Each Entry (named_for o taken hs)) → (a : Vars) (vs units : List (List ℕ)) → Each (λ x. length x ≤ 31) vs → length vs ≤ 2 ^ 30 → length units ≤ 804000 → Each Entry (unit_names_for o vs units (map shadow (names_in a vs) ++ hs))
+table_short_for o hs helpers a vs units short few some =
+    let eighteen : length reserved ≡ 18 = refl in
+    let x = length-append vs (units ++ reserved) in
+    let y = length-append units reserved in
+    let shadows = shadows_count a vs in
+    entries_join (map own vs) _ (own_short vs short) (before o (vs ++ (units ++ reserved)) (map shadow (names_in a vs)) hs (shadows_modest o a vs short) (omega arith) (λ later h. helpers later (omega arith)))
+
 module _ (sc : Schedules) (p : Plan) (i : ℕ) (c : Code) (loops : depth_used_with sc p i 0 c ≤ 45) (works : works_used p.marks i c ≤ 200) (temps : temps_used p.marks i c < 10 ^ 47) where
   loop_piece : (is_such : Act → Bool) (r : Role) (taken : List (List ℕ)) (ws : List Var) → length taken + 45 ≤ most → ((later : List (List ℕ)) → length later ≤ length taken + 45 → Each Entry (named later ws)) → Each Entry (named taken (loop_helpers_with sc is_such r p i c ++ ws))
   loop_piece is_such r taken ws le f =
       let few = among_count (λ k. goes_back_with sc is_such k p i 0 c) r 1 (depth_used_with sc p i 0 c) in
-      before taken (loop_helpers_with sc is_such r p i c) ws (among_modest (λ k. goes_back_with sc is_such k p i 0 c) r 1 (depth_used_with sc p i 0 c) (omega arith)) (omega arith) (λ later h. f later (omega arith))
+      before adjoint_text taken (loop_helpers_with sc is_such r p i c) ws (among_modest adjoint_text (λ k. goes_back_with sc is_such k p i 0 c) r 1 (depth_used_with sc p i 0 c) (omega arith)) (omega arith) (λ later h. f later (omega arith))
 
   -- those of reversals by schedules
-  acts_of : (z : Schedules) (sort : Step → Bool) (r : Role) → depth_used_with z p i 0 c ≤ 45 → Each Modest (reversal_helpers z sort r p i c)
-  acts_of z sort r le = among_modest (λ k. reverses_by z sort k p i 0 c) r 1 (depth_used_with z p i 0 c) (omega arith)
+  acts_of : (z : Schedules) (sort : Step → Bool) (r : Role) → depth_used_with z p i 0 c ≤ 45 → Each (Modest adjoint_text) (reversal_helpers z sort r p i c)
+  acts_of z sort r le = among_modest adjoint_text (λ k. reverses_by z sort k p i 0 c) r 1 (depth_used_with z p i 0 c) (omega arith)
 
-  acts_modest : (z : Schedules) → depth_used_with z p i 0 c ≤ 45 → Each Modest (all_reversal_helpers z p i c)
+  acts_modest : (z : Schedules) → depth_used_with z p i 0 c ≤ 45 → Each (Modest adjoint_text) (all_reversal_helpers z p i c)
   acts_modest None le = tt
   acts_modest (Some reads) le =
       let z = Some reads in
-      each_append Modest (reversal_helpers z any_step entry p i c) _ (acts_of z any_step entry le)
-      (each_append Modest (reversal_helpers z any_step entries p i c) _ (acts_of z any_step entries le)
-      (each_append Modest (reversal_helpers z any_step kind p i c) _ (acts_of z any_step kind le)
-      (each_append Modest (reversal_helpers z any_step lower p i c) _ (acts_of z any_step lower le)
-      (each_append Modest (reversal_helpers z any_step upper p i c) (reversal_helpers z has_slots slots p i c) (acts_of z any_step upper le) (acts_of z has_slots slots le)))))
+      each_append (Modest adjoint_text) (reversal_helpers z any_step entry p i c) _ (acts_of z any_step entry le)
+      (each_append (Modest adjoint_text) (reversal_helpers z any_step entries p i c) _ (acts_of z any_step entries le)
+      (each_append (Modest adjoint_text) (reversal_helpers z any_step kind p i c) _ (acts_of z any_step kind le)
+      (each_append (Modest adjoint_text) (reversal_helpers z any_step lower p i c) _ (acts_of z any_step lower le)
+      (each_append (Modest adjoint_text) (reversal_helpers z any_step upper p i c) (reversal_helpers z has_slots slots p i c) (acts_of z any_step upper le) (acts_of z has_slots slots le)))))
 
   few_of : (z : Schedules) (sort : Step → Bool) (r : Role) → depth_used_with z p i 0 c ≤ 45 → length (reversal_helpers z sort r p i c) ≤ 45
   few_of z sort r le = let few = among_count (λ k. reverses_by z sort k p i 0 c) r 1 (depth_used_with z p i 0 c) in omega arith
@@ -248,20 +303,14 @@ module _ (sc : Schedules) (p : Plan) (i : ℕ) (c : Code) (loops : depth_used_wi
       let few_acts = acts_count sc loops in
       let count_works = from_count work 1 (works_used p.marks i c) in
       let power : 10 ^ suc 46 < 10 ^ suc 47 = omega arith in
-      before taken _ _ (control_modest (tells_some_with sc p i 0 c)) (omega arith) (λ a ha.
+      before adjoint_text taken _ _ (control_modest adjoint_text (tells_some_with sc p i 0 c)) (omega arith) (λ a ha.
       loop_piece is_loop count a _ (omega arith) (λ b hb.
       loop_piece is_do first b _ (omega arith) (λ d hd.
       loop_piece is_do stride d _ (omega arith) (λ e he.
       loop_piece is_loop turn e _ (omega arith) (λ g hg.
-      before g (all_reversal_helpers sc p i c) (helpers_from work 1 (works_used p.marks i c) ++ helpers_from temp 1 (temps_used p.marks i c)) (acts_modest sc loops) (omega arith) (λ k hk.
-      before k (helpers_from work 1 (works_used p.marks i c)) (helpers_from temp 1 (temps_used p.marks i c)) (from_modest work 1 (works_used p.marks i c) (omega arith)) (omega arith) (λ h hh.
-      let P : List (List ℕ) → Type 0 = λ xs. Each Entry (named xs (helpers_from temp 1 (temps_used p.marks i c))) in
-      subst P (append-nil h) (temps_short h (omega arith) 1 (temps_used p.marks i c) (omega arith) [] tt))))))))
+      before adjoint_text g (all_reversal_helpers sc p i c) (helpers_from work 1 (works_used p.marks i c) ++ helpers_from temp 1 (temps_used p.marks i c)) (acts_modest sc loops) (omega arith) (λ k hk.
+      before adjoint_text k (helpers_from work 1 (works_used p.marks i c)) (helpers_from temp 1 (temps_used p.marks i c)) (from_modest adjoint_text work 1 (works_used p.marks i c) (omega arith)) (omega arith) (λ h hh.
+      temps_short adjoint_text h (omega arith) (temps_used p.marks i c) (omega arith))))))))
 
   pub table_short : (a : Vars) (vs units : List (List ℕ)) → Each (λ x. length x ≤ 31) vs → length vs ≤ 2 ^ 30 → length units ≤ 804000 → Each Entry (unit_names vs units (map shadow (names_in a vs) ++ helpers_used_with sc p i c))
-  table_short a vs units short few some =
-      let eighteen : length reserved ≡ 18 = refl in
-      let x = length-append vs (units ++ reserved) in
-      let y = length-append units reserved in
-      let shadows = shadows_count a vs in
-      entries_join (map own vs) _ (own_short vs short) (before (vs ++ (units ++ reserved)) (map shadow (names_in a vs)) (helpers_used_with sc p i c) (shadows_modest a vs short) (omega arith) (λ later h. helpers_short later (omega arith)))
+  table_short = table_short_for adjoint_text (helpers_used_with sc p i c) helpers_short

@@ -3,7 +3,6 @@ use Rattle.std.specs.Prelude.{◌≡◌, ℕ, ◌+◌, Bool, true, ◌&&◌, nat
 use Rattle.std.specs.List.{list_all}
 use Rattle.adj_tree.specs.Code.{Var, plain, shadow, helper, Term, Terms, lit, var, elem, neg, bin, pow, power_of, abs, none, more, Test, compare, negation, conjunction, disjunction, Runtime, push_word, pop_word, push_array, pop_array, push_control, pop_control, zero_array, begin_reversal, count_actions, give_action, end_reversal, Mark, unmarked, with_count, count_from, Act, assign, choose, loop, during, call, runtime, Code, stop, step, Extent, fixed, given, Procedure}
 use Rattle.adj_tree.specs.Size.{term_depth, test_depth, IsNested}
-use Rattle.def_text.specs.Statement.{Range}
 use Rattle.law_limits.specs.Rule.{Rule, keeps}
 
 -- the actuals of a call of the runtime; a place is an element, of no subscripts where it is a scalar

@@ -19,7 +19,8 @@ use Rattle.law_sweep.specs.Scenes.{Course}
 use Rattle.def_sweep.specs.Plan.{beside, IsActual, step_snapshot, Callee, found_or}
 pub use Rattle.def_sweep.specs.Plan.{writes_actual}
 use Rattle.def_sweep.specs.Rows.{adjoint_call}
-use Rattle.law_sweep.specs.Passing.{Bindings, bindings, passed_in, passed_out}
+use Rattle.def_sweep.specs.Bindings.{Bindings, bindings}
+use Rattle.law_sweep.specs.Passing.{passed_in, passed_out}
 use Rattle.def_sweep.specs.Reversals.{Reversal, LoopRun, AreReversed, words_taken}
 use Rattle.law_sweep.specs.Runs.{Comes, ActComes, SameOn, SameOff}
 use Rattle.law_sweep.specs.Steps.{ActGoes, words_of}

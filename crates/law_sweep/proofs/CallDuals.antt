@@ -10,7 +10,8 @@ use Rattle.def_sweep.specs.Plan.{beside, actuals_named, found_or}
 use Rattle.def_sweep.specs.Rows.{with_shadows}
 use Rattle.def_sweep.specs.Callees.{nothing}
 pub use Rattle.law_sweep.specs.Kernel.{AsMany}
-use Rattle.law_sweep.specs.Passing.{bindings, actuals_in, passed_in, passed_out}
+use Rattle.def_sweep.specs.Bindings.{bindings, actuals_in}
+use Rattle.law_sweep.specs.Passing.{passed_in, passed_out}
 use Rattle.law_sweep.proofs.Passing.{beside_back, in_plain, in_shadow, in_helper, out_plain, out_shadow, out_helper}
 use Rattle.law_sweep.proofs.CallTangents.{tangents_in, tangents_out}
 

@@ -14,7 +14,7 @@ use Rattle.def_names.proofs.Variables.{and_true, has_apart}
 use Rattle.def_meaning.proofs.Variables.{var_same}
 use Rattle.def_sweep.specs.Plan.{beside, IsActual, actuals_named}
 use Rattle.def_sweep.specs.Callees.{nothing}
-use Rattle.law_sweep.specs.Passing.{bindings}
+use Rattle.def_sweep.specs.Bindings.{bindings}
 use Rattle.law_sweep.specs.Kernel.{AsMany}
 use Rattle.law_sweep.proofs.Passing.{beside_key}
 use Rattle.law_sweep.proofs.Entering.{actuals_at}

@@ -21,7 +21,8 @@ use Rattle.law_sweep.specs.Pairs.{Key, key_eq, Words, with_tangents, on_words, o
 use Rattle.law_sweep.specs.Scenes.{Course}
 use Rattle.def_sweep.specs.Plan.{beside, IsActual, actuals_named, found_or, writes_actual}
 use Rattle.def_sweep.specs.Callees.{nothing, CalleeFacts}
-use Rattle.law_sweep.specs.Passing.{Bindings, bindings, passed_in, passed_out, plainly, actuals_in}
+use Rattle.def_sweep.specs.Bindings.{Bindings, bindings, actuals_in}
+use Rattle.law_sweep.specs.Passing.{passed_in, passed_out, plainly}
 use Rattle.law_sweep.specs.Runs.{Passes, SameOn, SameOff}
 use Rattle.law_sweep.proofs.Passing.{in_plain, out_plain}
 use Rattle.law_sweep.specs.Emitted.{AreNamed, name_of}

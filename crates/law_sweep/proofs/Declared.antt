@@ -18,7 +18,8 @@ use Rattle.def_sweep.specs.Plan.{Callee, beside, IsActual, found_or}
 use Rattle.def_sweep.specs.Callees.{nothing}
 use Rattle.law_sweep.specs.Emitted.{DeclaredAlike, AreNamed, name_of}
 use Rattle.law_sweep.specs.Kernel.{AsMany}
-use Rattle.law_sweep.specs.Passing.{Bindings, bindings, passed_in, plainly}
+use Rattle.def_sweep.specs.Bindings.{Bindings, bindings}
+use Rattle.law_sweep.specs.Passing.{passed_in, plainly}
 use Rattle.law_sweep.proofs.Entering.{actuals_at, entry_pulled}
 use Rattle.law_sweep.specs.Steps.{ActualsAgree}
 use Rattle.law_sweep.proofs.Calls.{with_shadow_shapes, own_named}

@@ -17,7 +17,8 @@ use Rattle.law_sweep.specs.Pairs.{on_words}
 use Rattle.law_sweep.specs.Scenes.{Course}
 use Rattle.law_sweep.specs.Kernel.{AsMany}
 use Rattle.def_sweep.specs.Callees.{nothing}
-use Rattle.law_sweep.specs.Passing.{bindings, plainly}
+use Rattle.def_sweep.specs.Bindings.{bindings}
+use Rattle.law_sweep.specs.Passing.{plainly}
 use Rattle.def_sweep.specs.Plan.{Callee, IsActual}
 use Rattle.law_sweep.specs.Runs.{Comes}
 use Rattle.law_sweep.specs.Steps.{ActualsAgree}

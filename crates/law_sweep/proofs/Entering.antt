@@ -26,7 +26,8 @@ use Rattle.law_sweep.proofs.Told.{tells_called, tells_entered, marks_called, tel
 use Rattle.law_sweep.specs.Runs.{Comes, ActComes, Passes}
 use Rattle.law_sweep.specs.Steps.{ActGoes}
 use Rattle.law_sweep.proofs.UnitLists.{found_there}
-use Rattle.law_sweep.specs.Passing.{Bindings, actuals_in, passed_in, passed_out}
+use Rattle.def_sweep.specs.Bindings.{Bindings, actuals_in}
+use Rattle.law_sweep.specs.Passing.{passed_in, passed_out}
 pub use Rattle.law_sweep.specs.Emitted.{AreNamed, name_of}
 
 -- a whole variable as an actual

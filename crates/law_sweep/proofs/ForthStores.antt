@@ -1,16 +1,17 @@
 -- The stores of the turns of a reversed loop in the forward sweep, in which the step call is kept or not.
 use Rattle.std.proofs.Common.{◌≡◌, ◌<◌, ◌^◌, ℕ, zero, suc, ◌+◌, Bool, true, false, List, refl, sym, ap, ◌∙◌, subst, arith}
-use Rattle.std.specs.Prelude.{ℤ, pos, Option, Some, None}
+use Rattle.std.specs.Prelude.{ℤ, pos, ◌||◌, Option, Some, None}
 use Rattle.adj_tree.specs.Code.{Role, role_code, Var, plain, shadow, helper, first, stride, count, slots, name_eq, Mark, Term}
 use Rattle.adj_tree.proofs.Names.{nat_refl, name_refl}
 use Rattle.adj_word.specs.Word.{add}
 use Rattle.adj_word.proofs.Counting.{count_up}
 use Rattle.def_meaning.specs.Store.{Shape, size_of, Store, set}
+use Rattle.def_meaning.specs.Read.{reads_term}
 use Rattle.def_names.specs.Numbers.{Vars}
 use Rattle.def_names.specs.Numbering.{point_before, point_after}
-use Rattle.def_sweep.specs.Facts.{In, joined, Facts}
+use Rattle.def_sweep.specs.Facts.{In, Within, joined, Facts}
 use Rattle.def_meaning.specs.Apart.{AreApart}
-use Rattle.def_names.proofs.Variables.{or_false}
+use Rattle.def_names.proofs.Variables.{or_false, or_left, or_right}
 use Rattle.law_sweep.proofs.Turned.{SameDepth}
 use Rattle.def_sweep.specs.Plan.{beside, writes_actual}
 use Rattle.law_sweep.specs.Laws.{just, point_inside, ReversedLaws}
@@ -52,6 +53,16 @@ module _ (x : List ℕ) (mark : Mark) (g : CalleeFacts) (given : List (List ℕ)
 
   pub needs_later : (v : Var) → In v (w.needed (point_after (suc i))) → In v (w.needed (point_before (suc i)))
   needs_later v h = laws.call.values.needs v (rw h refl)
+
+  -- the bounds and the step of the loop read what is needed before it
+  pub uses_first : Within (λ v. reads_term v ea) (w.needed (point_before i))
+  uses_first v h = laws.needs_uses v (or_left (reads_term v ea) (reads_term v eb || reads_term v ec) h)
+
+  pub uses_last : Within (λ v. reads_term v eb) (w.needed (point_before i))
+  uses_last v h = laws.needs_uses v (or_right (reads_term v ea) (reads_term v eb || reads_term v ec) (or_left (reads_term v eb) (reads_term v ec) h))
+
+  pub uses_step : Within (λ v. reads_term v ec) (w.needed (point_before i))
+  uses_step v h = laws.needs_uses v (or_right (reads_term v ea) (reads_term v eb || reads_term v ec) (or_right (reads_term v eb) (reads_term v ec) h))
 
   abbrev wr : Vars
   wr = writes_actual g.callee given

@@ -18,7 +18,8 @@ use Rattle.def_meaning.specs.Apart.{AreApart}
 use Rattle.law_sweep.specs.Pairs.{Key, key_eq, Words, shadows, on_words}
 use Rattle.law_sweep.specs.Scenes.{Course}
 use Rattle.def_sweep.specs.Plan.{beside, Callee, found_or}
-use Rattle.law_sweep.specs.Passing.{Bindings, bindings, passed_in, passed_out, actuals_in}
+use Rattle.def_sweep.specs.Bindings.{Bindings, bindings, actuals_in}
+use Rattle.law_sweep.specs.Passing.{passed_in, passed_out}
 use Rattle.def_sweep.specs.Reversals.{Reversal}
 use Rattle.law_sweep.specs.Runs.{Comes, ActComes}
 use Rattle.law_sweep.proofs.Passing.{beside_back, in_plain, in_shadow, out_plain, out_shadow, out_helper}

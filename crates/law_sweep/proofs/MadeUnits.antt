@@ -18,7 +18,7 @@ use Rattle.law_sweep.proofs.Naming.{AreMadeInside, naming-apart, unit_names_for-
 use Rattle.def_names.proofs.Variables.{or_left, or_right}
 use Rattle.def_sweep.specs.Plan.{Callee}
 use Rattle.law_sweep.specs.Kernel.{AsMany}
-use Rattle.law_sweep.specs.Passing.{bindings}
+use Rattle.def_sweep.specs.Bindings.{bindings}
 use Rattle.law_sweep.specs.Emitted.{AreNamed, DeclaredAlike, HasUnit}
 use Rattle.def_sweep.specs.Program.{made_unit_for}
 use Rattle.law_sweep.proofs.Variables.{dummy_among, undeclared}

@@ -9,7 +9,8 @@ use Rattle.def_meaning.specs.Apart.{has_name, AreApart}
 use Rattle.def_names.proofs.Variables.{or_false, or_left, or_right, has_apart}
 use Rattle.def_sweep.specs.Plan.{beside}
 pub use Rattle.def_sweep.specs.Plan.{found_or}
-use Rattle.law_sweep.specs.Passing.{bindings, passed_in, passed_out}
+use Rattle.def_sweep.specs.Bindings.{bindings}
+use Rattle.law_sweep.specs.Passing.{passed_in, passed_out}
 
 -- ---- lists side by side
 

@@ -1,6 +1,6 @@
 -- The row of a reversed loop in both sweeps.
 use Rattle.std.proofs.Common.{◌≡◌, ◌<◌, ℕ, suc, ◌+◌, false, List, [], ◌∷◌, ◌++◌, refl, sym, ap, ◌∙◌, subst, arith, append_assoc}
-use Rattle.std.specs.Prelude.{ℤ, pos, Ok, ◌||◌, Some}
+use Rattle.std.specs.Prelude.{ℤ, pos, Ok, Some}
 use Rattle.adj_tree.specs.Code.{role_code, Var, plain, helper, first, stride, count, name_eq, plus, var, bin, none, Mark, assign, unmarked, Act, loop, runtime, push_word, Term, call, Code, stop, step}
 use Rattle.adj_tree.proofs.Names.{nat_refl, name_refl}
 use Rattle.adj_word.specs.Word.{wrap, add}
@@ -15,11 +15,10 @@ use Rattle.law_meaning.proofs.Leadings.{leads_stop, leads_append, leads_step, le
 use Rattle.def_names.specs.Numbers.{Vars}
 use Rattle.def_names.specs.Numbering.{point_before, point_after}
 use Rattle.def_sweep.specs.Marked.{code_if}
-use Rattle.def_sweep.specs.Facts.{Within, joined, Facts}
+use Rattle.def_sweep.specs.Facts.{joined, Facts}
 use Rattle.def_meaning.specs.Apart.{AreApart}
 use Rattle.law_sweep.specs.Pairs.{Key, Words, on_words}
 use Rattle.law_sweep.specs.Scenes.{Course, scene}
-use Rattle.def_names.proofs.Variables.{or_left, or_right}
 use Rattle.def_sweep.specs.Plan.{Plan, actuals_named}
 use Rattle.def_sweep.specs.Rows.{literal, pushes, pops, set_own, push_own, adjoint_call}
 use Rattle.def_sweep.specs.ReversalCode.{slots_of, push_slots, reversed_forward, reversed_backward}
@@ -39,7 +38,7 @@ use Rattle.law_sweep.proofs.Slots.{few_slots, force_again, slots_trail, with_slo
 use Rattle.law_sweep.proofs.Goings.{loop_goes}
 use Rattle.law_sweep.specs.Steps.{changes, loops_of, Steps}
 use Rattle.law_sweep.proofs.StepRuns.{NumbersFit, numbers_few}
-use Rattle.law_sweep.proofs.ForthStores.{needed_through, enters, leaves}
+use Rattle.law_sweep.proofs.ForthStores.{needed_through, enters, leaves, uses_first, uses_last, uses_step}
 use Rattle.law_sweep.proofs.ReversedForth.{turns_forth}
 use Rattle.law_sweep.proofs.ReversedRows.{reversed_back, own_run, wr, snap, saves}
 
@@ -92,15 +91,6 @@ module _ (q : Calls ℤ) (sh : Var → Shape) (level : ℕ) (cells : List Key) (
   abbrev back : Code
   back = reversed_backward (suc d) line (plain x) mark (pushes p line snapshot) (pops p line snapshot) (pops p line saved_names) plain_call (one line (adjoint_call g.callee given))
 
-  uses_a : Within (λ v. reads_term v ea) needed
-  uses_a v h = laws.needs_uses v (or_left (reads_term v ea) (reads_term v eb || reads_term v ec) h)
-
-  uses_b : Within (λ v. reads_term v eb) needed
-  uses_b v h = laws.needs_uses v (or_right (reads_term v ea) (reads_term v eb || reads_term v ec) (or_left (reads_term v eb) (reads_term v ec) h))
-
-  uses_c : Within (λ v. reads_term v ec) needed
-  uses_c v h = laws.needs_uses v (or_right (reads_term v ea) (reads_term v eb || reads_term v ec) (or_right (reads_term v eb) (reads_term v ec) h))
-
   pub reversed_row : wrote (plain x) ≡ false → (at : ℕ) (b : Course) (f : Store ℤ) (t : List ℤ) → SameOn sh needed u f → ReversedRow q sh level cells d x (joined (just (plain x)) wrote) (w.needed (point_after i)) (w.held (point_after i)) (w.held (point_before i)) forth back b (U l) f t (changes change 0 l) (run_at at ∷ loops_of loops 0 l)
   reversed_row x_free at b f t same =
       let f1 = set f (helper first (suc d)) 0 a0 in
@@ -126,7 +116,7 @@ module _ (q : Calls ℤ) (sh : Var → Shape) (level : ℕ) (cells : List Key) (
       let value4 : f4 (plain x) 0 ≡ U 0 (plain x) 0 = rw (name_refl x) (sym (ap (λ (z : Store ℤ). z (plain x) 0) starts ∙ rw (name_refl x) refl)) in
       let r = turns_forth q sh level cells d line p known x one_cell l m mark a0 c0 g given apart apart' name change loops U U' w i ea eb ec laws numbers.small s nexts x_free l 0 b f4 t2 (omega arith) same4 value4 count_is in
       let looped = loop_goes q nw line (plain x) (var (helper first (suc d))) eb (var (helper stride (suc d))) (kept_call +++ one line (assign (helper count (suc d)) none (bin plus (var (helper count (suc d))) (literal 1)))) b f3 r.to t2 t2 a0 b0 c0 l r.calls []
-      (ap Ok first_is) (value_again sh level needed u f3 same3 eb text_b uses_b ∙ is_b) (ap Ok stride_is) turns_is r.runs in
+      (ap Ok first_is) (value_again sh level needed u f3 same3 eb text_b (uses_last x mark g given w i ea eb ec laws) ∙ is_b) (ap Ok stride_is) turns_is r.runs in
       let after = looped.later in
       let none_else : 0 + l ≡ l = omega arith in
       let counted : r.to (helper count (suc d)) 0 ≡ pos l = r.moved.counted_is ∙ ap pos none_else in
@@ -148,8 +138,8 @@ module _ (q : Calls ℤ) (sh : Var → Shape) (level : ℕ) (cells : List Key) (
           later = after;
           tells = tells_of level b after r.calls [] looped.tells;
           runs = subst (λ (z : List ℤ). Leads q nw forth (scene b f t) (scene after r.to z)) e
-              (leads_step q nw line (assign (helper first (suc d)) none ea) _ (scene b f t) (scene b f1 t) (scene after r.to full) (λ k. rw (value_again sh level needed u f same ea text_a uses_a ∙ is_a) refl)
-              (leads_step q nw line (assign (helper stride (suc d)) none ec) _ (scene b f1 t) (scene b f2 t) (scene after r.to full) (λ k. rw (value_again sh level needed u f1 same1 ec text_c uses_c ∙ is_c) refl)
+              (leads_step q nw line (assign (helper first (suc d)) none ea) _ (scene b f t) (scene b f1 t) (scene after r.to full) (λ k. rw (value_again sh level needed u f same ea text_a (uses_first x mark g given w i ea eb ec laws) ∙ is_a) refl)
+              (leads_step q nw line (assign (helper stride (suc d)) none ec) _ (scene b f1 t) (scene b f2 t) (scene after r.to full) (λ k. rw (value_again sh level needed u f1 same1 ec text_c (uses_step x mark g given w i ea eb ec laws) ∙ is_c) refl)
               (slots_set sh level (suc d) q line mark m behind_set b f2 t (scene after r.to full) (force_again sh level needed u f2 same2 mark m has laws.needs_slots force_is)
               (leads_step q nw line (assign (helper count (suc d)) none (literal 0)) _ (scene b fm t) (scene b f3 t) (scene after r.to full) (λ k. refl)
               (leads_append q nw (pushes p line saved_names) _ (scene b f3 t) (scene b f3 t1) (scene after r.to full) (saved.pushed b t)

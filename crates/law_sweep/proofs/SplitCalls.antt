@@ -16,7 +16,8 @@ use Rattle.def_sweep.specs.Plan.{Plan, beside, IsActual, actuals_named, writes_a
 use Rattle.def_sweep.specs.Rows.{pushes, pops}
 use Rattle.law_sweep.specs.Kernel.{AsMany}
 use Rattle.def_sweep.specs.Callees.{nothing, CalleeFacts}
-use Rattle.law_sweep.specs.Passing.{bindings, passed_in}
+use Rattle.def_sweep.specs.Bindings.{bindings}
+use Rattle.law_sweep.specs.Passing.{passed_in}
 use Rattle.def_sweep.specs.Reversals.{LoopRun}
 use Rattle.law_sweep.specs.Runs.{Comes, ActComes, SameOn, SameOff}
 use Rattle.law_sweep.specs.Steps.{ActualsAgree}

@@ -10,7 +10,7 @@ use Rattle.def_meaning.specs.Apart.{has_name, AreApart}
 use Rattle.def_names.proofs.Variables.{has_apart}
 use Rattle.law_sweep.specs.Emitted.{AreNamed}
 use Rattle.law_sweep.specs.Kernel.{AsMany}
-use Rattle.law_sweep.specs.Passing.{Bindings, bindings}
+use Rattle.def_sweep.specs.Bindings.{Bindings, bindings}
 use Rattle.def_sweep.specs.Plan.{Callee, IsActual, group}
 use Rattle.def_sweep.specs.Reversals.{words_taken}
 use Rattle.def_sweep.specs.StepUnits.{taken_in, taken_behind}

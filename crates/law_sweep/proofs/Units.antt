@@ -27,7 +27,8 @@ use Rattle.def_sweep.specs.Plan.{Plan, beside, IsActual, actuals_named, found_or
 use Rattle.def_sweep.specs.Emission.{forward_with, backward_with, forward_act_with, backward_act_with}
 use Rattle.def_sweep.specs.Callees.{nothing, CalleeFacts, is_plain', is_plain}
 use Rattle.law_sweep.specs.Laws.{AssignmentLaws, last_point, ListLawsBy, WayLaws, UnitLawsBy}
-use Rattle.law_sweep.specs.Passing.{bindings, plainly, Bindings, passed_in}
+use Rattle.def_sweep.specs.Bindings.{bindings, Bindings}
+use Rattle.law_sweep.specs.Passing.{plainly, passed_in}
 use Rattle.law_sweep.specs.Cells.{cells_of}
 use Rattle.law_sweep.specs.Kernel.{AssignmentFits, CallFits, FitsListBy}
 use Rattle.law_sweep.specs.Environment.{UnitFitsBy, PairFits}

@@ -10,7 +10,7 @@ use Rattle.def_meaning.specs.Units.{declared}
 use Rattle.def_names.specs.Numbers.{Vars}
 use Rattle.def_meaning.specs.Apart.{has_name}
 use Rattle.def_sweep.specs.Plan.{Callee}
-use Rattle.law_sweep.specs.Passing.{Bindings, bindings}
+use Rattle.def_sweep.specs.Bindings.{Bindings, bindings}
 use Rattle.law_sweep.specs.Kernel.{AsMany}
 
 -- the name that a variable has

@@ -1,4 +1,4 @@
--- How long the names of adjoint units are.
+-- How long the names of made units are.
 use Rattle.std.proofs.Common.{◌≡◌, ◌≤◌, ℕ, zero, suc, ◌+◌, ◌*◌, true, false, List, [], ◌∷◌, ◌++◌, length, map, flat_map, refl, sym, subst, ◌∙◌, arith, inl, inr, append_assoc, length-append, codes, if◌then◌else◌}
 use Rattle.std.proofs.lemmas.Bool.{or_cases, cases_lt}
 use Rattle.std.proofs.lemmas.List.{append-nil}
@@ -9,7 +9,7 @@ use Rattle.def_names.specs.Fresh.{digits, candidate, fresh}
 use Rattle.def_sweep.specs.Declared.{unit_name}
 use Rattle.def_names.proofs.NameLists.{has-append}
 use Rattle.def_kernel.specs.Kernel.{EachUnit}
-use Rattle.def_sweep.specs.Names.{source_names, adjoint_after, adjoint_name}
+use Rattle.def_sweep.specs.Names.{source_names, named_after, adjoint_name}
 use Rattle.law_emitted.proofs.Lists.{Each, each_append}
 use Rattle.law_emitted.proofs.Sources.{of_each}
 use Rattle.law_limits.specs.Lengths.{AreShort}
@@ -51,36 +51,41 @@ module _ (ps : List Procedure) (few : length ps ≤ 402000) (names : EachUnit (�
   source_within : Each Within (source_names ps)
   source_within = each_append Within (map unit_name ps) (flat_map variables ps) (units_within ps names) (all_within ps short)
 
-  made_short : (made : List (List ℕ)) → length made ≤ 402000 → (name : List ℕ) → length name ≤ 46 → length (fresh (name ++ codes "_B") (source_names ps ++ made)) ≤ 63
-  made_short made less name le =
-      let b = name ++ codes "_B" in
-      let wanted = length-append name (codes "_B") in
-      let all = length-append (source_names ps) made in
-      let source = length-append (map unit_name ps) (flat_map variables ps) in
-      let units = units_length ps in
-      let vars = variables_length ps known in
-      elim (cases_lt 46 (length b)) [
-        | inl lt ↦
-            let f = fresh_short 5 b made (source_names ps ++ made) (λ j e.
-            elim (or_cases (has_name (candidate b j) (source_names ps)) (has_name (candidate b j) made) (sym (has-append (candidate b j) (source_names ps) made) ∙ e)) [
-              | inl g ↦ let within : length (candidate b j) ≤ 46 = of_each Within (source_names ps) source_within (candidate b j) g in let longer = candidate_longer b j in absurd (omega arith)
-              | inr g ↦ g
-            ]) (omega arith) in
-            omega arith
-        | inr ge ↦ let f = fresh_short 14 b (source_names ps ++ made) (source_names ps ++ made) (λ j e. e) (omega arith) in omega arith
-      ]
+  -- where so many characters are put behind the names of units
+  module _ (ending : List ℕ) (two : length ending ≤ 2) where
+    made_short : (made : List (List ℕ)) → length made ≤ 402000 → (name : List ℕ) → length name ≤ 46 → length (fresh (name ++ ending) (source_names ps ++ made)) ≤ 63
+    made_short made less name le =
+        let b = name ++ ending in
+        let wanted = length-append name ending in
+        let all = length-append (source_names ps) made in
+        let source = length-append (map unit_name ps) (flat_map variables ps) in
+        let units = units_length ps in
+        let vars = variables_length ps known in
+        elim (cases_lt 46 (length b)) [
+          | inl lt ↦
+              let f = fresh_short 5 b made (source_names ps ++ made) (λ j e.
+              elim (or_cases (has_name (candidate b j) (source_names ps)) (has_name (candidate b j) made) (sym (has-append (candidate b j) (source_names ps) made) ∙ e)) [
+                | inl g ↦ let within : length (candidate b j) ≤ 46 = of_each Within (source_names ps) source_within (candidate b j) g in let longer = candidate_longer b j in absurd (omega arith)
+                | inr g ↦ g
+              ]) (omega arith) in
+              omega arith
+          | inr ge ↦ let f = fresh_short 14 b (source_names ps ++ made) (source_names ps ++ made) (λ j e. e) (omega arith) in omega arith
+        ]
 
-  after_short : (made : List (List ℕ)) (us : List Procedure) (name : List ℕ) → length made + length us ≤ 402000 → EachUnit (λ u. length u.name ≤ 46) us → length (adjoint_after (source_names ps ++ made) us name) ≤ 63
-  after_short made [] name le h = omega arith
-  after_short made (u ∷ us) name le h =
-      let x = fresh (u.name ++ codes "_B") (source_names ps ++ made) in
-      let here = made_short made (omega arith) u.name h.0 in
-      let all = length-append made (x ∷ []) in
-      let P : List (List ℕ) → Type 0 = λ taken. length (adjoint_after taken us name) ≤ 63 in
-      let rest : length (adjoint_after ((source_names ps ++ made) ++ x ∷ []) us name) ≤ 63 = subst P (sym (append_assoc (source_names ps) made (x ∷ []))) (after_short (made ++ x ∷ []) us name (omega arith) h.1) in
-      elim (name_eq u.name name) as (λ b. length (if b then x else adjoint_after ((source_names ps ++ made) ++ x ∷ []) us name) ≤ 63) [ true ↦ here | false ↦ rest ]
+    after_short : (made : List (List ℕ)) (us : List Procedure) (name : List ℕ) → length made + length us ≤ 402000 → EachUnit (λ u. length u.name ≤ 46) us → length (named_after ending (source_names ps ++ made) us name) ≤ 63
+    after_short made [] name le h = omega arith
+    after_short made (u ∷ us) name le h =
+        let x = fresh (u.name ++ ending) (source_names ps ++ made) in
+        let here = made_short made (omega arith) u.name h.0 in
+        let all = length-append made (x ∷ []) in
+        let P : List (List ℕ) → Type 0 = λ taken. length (named_after ending taken us name) ≤ 63 in
+        let rest : length (named_after ending ((source_names ps ++ made) ++ x ∷ []) us name) ≤ 63 = subst P (sym (append_assoc (source_names ps) made (x ∷ []))) (after_short (made ++ x ∷ []) us name (omega arith) h.1) in
+        elim (name_eq u.name name) as (λ b. length (if b then x else named_after ending ((source_names ps ++ made) ++ x ∷ []) us name) ≤ 63) [ true ↦ here | false ↦ rest ]
+
+    pub unit_name_short : (name : List ℕ) → length (named_after ending (source_names ps) ps name) ≤ 63
+    unit_name_short name =
+        let P : List (List ℕ) → Type 0 = λ taken. length (named_after ending taken ps name) ≤ 63 in
+        subst P (append-nil (source_names ps)) (after_short [] ps name (omega arith) names)
 
   pub adjoint_short : (u : Procedure) → length (adjoint_name ps u) ≤ 63
-  adjoint_short u =
-      let P : List (List ℕ) → Type 0 = λ taken. length (adjoint_after taken ps u.name) ≤ 63 in
-      subst P (append-nil (source_names ps)) (after_short [] ps u.name (omega arith) names)
+  adjoint_short u = unit_name_short (codes "_B") (omega arith) u.name
