@@ -7,6 +7,7 @@ pub mod AdjointReads
 pub mod Problem
 pub mod Flow
 pub mod Activity
+pub mod Carried
 pub mod Uses
 pub mod Live
 pub mod Held

@@ -17,7 +17,7 @@ use Rattle.law_sweep.proofs.Terms.{cell_in, tan, IsDefined}
 use Rattle.law_sweep.proofs.TermUses.{IsOver, AreText, over_treated, defined_same, IsUsable}
 use Rattle.law_sweep.proofs.TempsOf.{temps_made}
 use Rattle.law_sweep.proofs.TurnedOf.{HasTarget, target_is, target_same}
-use Rattle.law_tangent.specs.TangentOf.{tangent_term, parts_where, before_assignment}
+use Rattle.def_tangent.specs.TangentOf.{tangent_term, parts_where, before_assignment}
 use Rattle.law_tangent.specs.Bears.{AreWords, OnlyOn, HasTangents}
 use Rattle.law_tangent.proofs.Tangents.{tan-inactive}
 use Rattle.law_tangent.proofs.Parts.{parts_made}

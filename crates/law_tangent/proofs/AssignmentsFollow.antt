@@ -30,8 +30,8 @@ use Rattle.law_sweep.proofs.TermTangents.{tan_none, cell_in_below}
 use Rattle.law_sweep.proofs.TermUses.{IsOver, text_of, texts_of, over_of}
 use Rattle.law_sweep.proofs.TurnedOf.{HasTarget}
 use Rattle.law_sweep.proofs.Shapes.{value_bare}
-use Rattle.law_tangent.specs.TangentOf.{before_assignment}
-use Rattle.law_tangent.specs.Forward.{Plan, before_act}
+use Rattle.def_tangent.specs.TangentOf.{before_assignment}
+use Rattle.def_tangent.specs.Forward.{Plan, before_act}
 use Rattle.law_tangent.specs.Bears.{NoTapes, OnlyOn, Bears, SceneBears}
 use Rattle.law_tangent.proofs.Straight.{AreAside, Went, Fell, ran, went_there}
 use Rattle.law_tangent.specs.Counts.{size}

@@ -14,7 +14,8 @@ use Rattle.law_sweep.specs.Pairs.{Key, Words, with_tangents}
 use Rattle.def_names.proofs.Variables.{not_true}
 use Rattle.def_sweep.specs.Plan.{beside, IsActual, found_or}
 use Rattle.def_sweep.specs.Callees.{nothing}
-use Rattle.law_sweep.specs.Passing.{bindings, passed_in}
+use Rattle.def_sweep.specs.Bindings.{bindings}
+use Rattle.law_sweep.specs.Passing.{passed_in}
 use Rattle.law_sweep.proofs.Passing.{beside_back, in_plain, in_shadow}
 use Rattle.law_sweep.proofs.CallTangents.{tangents_in}
 use Rattle.law_tangent.specs.Bears.{Bears}

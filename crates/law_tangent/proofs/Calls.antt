@@ -26,7 +26,8 @@ use Rattle.law_sweep.specs.Pairs.{Words, with_tangents, on_words, on_duals}
 use Rattle.def_names.proofs.Variables.{not_true, or_false}
 use Rattle.def_sweep.specs.Plan.{beside, found_or, IsActual, actuals_named}
 use Rattle.def_sweep.specs.Callees.{nothing}
-use Rattle.law_sweep.specs.Passing.{Bindings, bindings, passed_in, plainly, actuals_in}
+use Rattle.def_sweep.specs.Bindings.{Bindings, bindings, actuals_in}
+use Rattle.law_sweep.specs.Passing.{passed_in, plainly}
 use Rattle.law_sweep.specs.Emitted.{AreNamed}
 use Rattle.law_sweep.specs.Steps.{ActualsAgree}
 use Rattle.law_sweep.proofs.Passing.{beside_in, beside_key, in_plain, in_shadow, in_helper}
@@ -36,7 +37,7 @@ use Rattle.law_sweep.proofs.CallTangents.{tangents_in}
 use Rattle.law_sweep.proofs.Entering.{actuals_at, entry_pulled}
 use Rattle.law_sweep.proofs.Declared.{fits_alike, shapes}
 use Rattle.law_sweep.proofs.CallFacts.{fit_of, fit_size}
-use Rattle.law_tangent.specs.Forward.{takes_some}
+use Rattle.def_tangent.specs.Forward.{takes_some}
 use Rattle.law_tangent.specs.Bears.{NoTapes, Bears, SceneBears}
 use Rattle.law_tangent.specs.Laws.{CalleeFlow, CallFlows}
 use Rattle.law_tangent.specs.Units.{as_shadowed, HasTangent, CallText}

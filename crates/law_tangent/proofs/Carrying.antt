@@ -11,7 +11,7 @@ use Rattle.def_sweep.specs.Callees.{nothing, CalleeFacts}
 use Rattle.law_sweep.specs.Laws.{just, point_inside, last_point, WayLaws, AssignmentLaws, LoopLaws, PassingLaws, StepLaws, among, is_found, CallLawsBy, ActLawsBy, ListLawsBy}
 use Rattle.law_sweep.proofs.Passing.{beside_back}
 use Rattle.law_sweep.proofs.CallTangents.{passing_of}
-use Rattle.law_tangent.specs.Forward.{Callee}
+use Rattle.def_tangent.specs.Forward.{Callee}
 use Rattle.law_tangent.specs.Laws.{CalleeFlow, WayFlows, AssignmentFlows, LoopFlows, CallFlows, ActFlows, ListFlows}
 use Rattle.law_tangent.specs.Carries.{flow_of, callee_flow, CallCarries, ActCarries, ListCarries, LawsFlow}
 

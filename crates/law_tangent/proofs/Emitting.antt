@@ -6,7 +6,7 @@ use Rattle.adj_tree.proofs.Names.{name_refl}
 use Rattle.def_names.specs.Numbers.{Vars}
 use Rattle.def_sweep.specs.Marked.{names_in}
 use Rattle.def_sweep.specs.Declared.{unit_name, unmarked}
-use Rattle.law_tangent.specs.Program.{Carried, made_names, tangent_unit, emitted_units, emitted_for, tangent_program}
+use Rattle.def_tangent.specs.Program.{Carried, made_names, tangent_unit, emitted_units, emitted_for, tangent_program}
 use Rattle.law_tangent.specs.IsTangent.{IsTangentOf}
 use Rattle.law_tangent.specs.Source.{TangentFits, EmittedIsTangent}
 use Rattle.law_tangent.proofs.FoundUnits.{tangent_found}

@@ -11,7 +11,8 @@ use Rattle.def_meaning.specs.Run.{run}
 use Rattle.def_meaning.specs.Written.{find_unit, handed_back}
 use Rattle.def_meaning.specs.Units.{Actual, declared, extent_in, extents_of, shape_of, shape_fits, entry_store, dummies_fit, copied_out, setting_in, entered, unit_run, call_in, calls_of}
 use Rattle.law_sweep.specs.Pairs.{Words, with_tangents, on_words, on_duals}
-use Rattle.law_sweep.specs.Passing.{Bindings, actuals_in, plainly}
+use Rattle.def_sweep.specs.Bindings.{Bindings, actuals_in}
+use Rattle.law_sweep.specs.Passing.{plainly}
 use Rattle.law_sweep.proofs.Calls.{with_shadow_shapes, shadow_undeclared, helper_undeclared, extents_dual}
 use Rattle.law_sweep.proofs.Entering.{actuals_at, actuals_are}
 

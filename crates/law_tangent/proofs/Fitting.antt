@@ -1,5 +1,5 @@
 -- A source that fits, with what flows through it, is as the theorem on units asks; and so is the program that is emitted for it.
-use Rattle.std.proofs.Common.{◌≡◌, ℕ, ◌*◌, Bool, true, false, List, [], ◌∷◌, refl, sym, ap, ◌∙◌, subst, arith, if◌then◌else◌}
+use Rattle.std.proofs.Common.{◌≡◌, ℕ, ◌*◌, Bool, true, false, List, [], ◌∷◌, refl, sym, ap, ◌∙◌, subst, if◌then◌else◌}
 use Rattle.std.specs.Prelude.{length, Option, Some, None, IsTrue}
 use Rattle.adj_tree.specs.Code.{plain, name_eq, Procedure}
 use Rattle.adj_tree.proofs.Names.{name_same}
@@ -21,10 +21,10 @@ use Rattle.law_sweep.proofs.UnitLists.{found_there}
 use Rattle.law_sweep.proofs.EmittedUnits.{counts, some_there, inside_in}
 use Rattle.law_sweep.proofs.Rounds.{calls_rise}
 use Rattle.law_sweep.proofs.Declared.{no_extents}
-use Rattle.law_tangent.specs.Forward.{tangents}
+use Rattle.def_tangent.specs.Forward.{tangents}
 use Rattle.law_tangent.specs.Laws.{CalleeFlow, ListTexts}
 use Rattle.law_tangent.specs.Units.{CallTexts, HasTangent, goes, plan_of, UnitFits, PlainFits}
-use Rattle.law_tangent.specs.Program.{Carried, dummies_of, tangent_name, plan_in, cleared, takes, has_tangent, stays, emitted_units}
+use Rattle.def_tangent.specs.Program.{Carried, dummies_of, tangent_name, plan_in, cleared, takes, has_tangent, stays, emitted_units}
 use Rattle.law_tangent.specs.Emitted.{callee_of}
 use Rattle.law_tangent.specs.Source.{flow_in, TangentFits}
 use Rattle.law_tangent.proofs.Counting.{twice_the_weight}

@@ -15,7 +15,7 @@ use Rattle.law_sweep.specs.Source.{is_unit}
 use Rattle.law_sweep.proofs.Names.{has-append, name_free, names_apart}
 use Rattle.law_sweep.proofs.UnitLists.{take, unit_named, found_there, Differ, skip_all, differ_both, differ_one, through, stays as stays_found}
 use Rattle.law_sweep.proofs.Variables.{variables_apart}
-use Rattle.law_tangent.specs.Program.{Carried, tangent_name, stays, has_tangent, made_names, tangent_unit, emitted_units}
+use Rattle.def_tangent.specs.Program.{Carried, tangent_name, stays, has_tangent, made_names, tangent_unit, emitted_units}
 use Rattle.law_tangent.specs.Emitted.{TangentsThere, StillThere}
 use Rattle.law_tangent.proofs.Made.{has_tangent_unit}
 

@@ -11,7 +11,8 @@ use Rattle.law_meaning.proofs.WriteSets.{handed_written}
 use Rattle.def_names.specs.Numbers.{Vars}
 use Rattle.def_meaning.specs.Apart.{AreApart}
 use Rattle.def_sweep.specs.Plan.{beside, found_or}
-use Rattle.law_sweep.specs.Passing.{Bindings, bindings, passed_in, passed_out}
+use Rattle.def_sweep.specs.Bindings.{Bindings, bindings}
+use Rattle.law_sweep.specs.Passing.{passed_in, passed_out}
 use Rattle.law_sweep.specs.Emitted.{AreNamed, name_of}
 use Rattle.law_sweep.proofs.Passing.{beside_back, in_plain, in_shadow, out_plain, out_shadow, out_helper}
 use Rattle.law_sweep.proofs.Entering.{actuals_at, entry_pulled, writes_as, copied_pulled}

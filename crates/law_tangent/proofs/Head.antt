@@ -14,8 +14,8 @@ use Rattle.def_names.specs.Numbers.{Vars}
 use Rattle.def_meaning.specs.Apart.{has_name}
 use Rattle.law_sweep.specs.Pairs.{on_words}
 use Rattle.def_names.proofs.Variables.{or_false}
-use Rattle.law_tangent.specs.Program.{cleared}
-use Rattle.law_tangent.specs.Forward.{tangents}
+use Rattle.def_tangent.specs.Program.{cleared}
+use Rattle.def_tangent.specs.Forward.{tangents}
 use Rattle.law_tangent.specs.Bears.{SceneBears}
 use Rattle.law_tangent.specs.Units.{plan_of}
 use Rattle.law_tangent.specs.Theorem.{HeadFollows}

@@ -45,12 +45,13 @@ use Rattle.law_sweep.proofs.UnitRuns.{unit_setting, output_from, begin}
 use Rattle.law_sweep.proofs.Entry as entry
 use Rattle.law_sweep.proofs.MadeUnits as units_made
 use Rattle.law_sweep.proofs.Runs.{left_same}
-use Rattle.law_tangent.specs.Forward.{tangents}
+use Rattle.def_tangent.specs.Forward.{tangents}
 use Rattle.law_tangent.specs.Bears.{SceneBears}
 use Rattle.law_tangent.specs.Theorem.{ShapesOf, HeadBears}
 use Rattle.law_tangent.specs.Units.{as_shadowed, plan_of}
-use Rattle.law_tangent.specs.Program.{Carried, helpers_used, names_of_unit, made_names, cleared, tangent_unit}
-use Rattle.law_tangent.specs.IsTangent.{AreAllWords, AreHandedIn, TangentDone, TangentTraps}
+use Rattle.def_tangent.specs.Program.{Carried, helpers_used, names_of_unit, made_names, cleared, tangent_unit}
+use Rattle.law_tangent.specs.IsTangent.{TangentDone}
+use Rattle.def_tangent.specs.IsTangent.{AreAllWords, AreHandedIn, TangentTraps}
 use Rattle.law_tangent.specs.Source.{TangentFits}
 use Rattle.law_tangent.proofs.Made.{helpers_made, own_callee, own_code}
 use Rattle.law_tangent.proofs.Pulled.{follows_named}

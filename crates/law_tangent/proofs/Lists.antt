@@ -23,7 +23,7 @@ use Rattle.law_sweep.specs.Pairs.{SamePlain, on_words, on_duals}
 use Rattle.law_sweep.specs.Passing.{plainly}
 use Rattle.def_sweep.specs.Plan.{actuals_named}
 use Rattle.law_sweep.specs.Laws.{just, point_inside, last_point}
-use Rattle.law_tangent.specs.Forward.{Plan, before_act, tangent_act, tangents}
+use Rattle.def_tangent.specs.Forward.{Plan, before_act, tangent_act, tangents}
 use Rattle.law_tangent.specs.Counts.{IsFew, AreFew}
 use Rattle.law_tangent.specs.Bears.{SceneBears}
 use Rattle.law_tangent.specs.Laws.{CalleeFlow, LoopFlows, CallFlows, ActFlows, ListFlows, LoopTexts, ActTexts, ListTexts}

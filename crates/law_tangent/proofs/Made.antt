@@ -14,9 +14,9 @@ use Rattle.law_sweep.proofs.Naming.{AreMadeInside}
 use Rattle.def_sweep.specs.Marking.{arrays_of}
 use Rattle.law_sweep.proofs.MadeParts.{made-append, helpers-inside}
 use Rattle.law_sweep.proofs.MadeUnits.{has_unit}
-use Rattle.law_tangent.specs.Forward.{Callee, tangents}
+use Rattle.def_tangent.specs.Forward.{Callee, tangents}
 use Rattle.law_tangent.specs.Units.{as_shadowed, HasTangent}
-use Rattle.law_tangent.specs.Program.{Carried, helpers_used, parts_used, temps_used, tangent_name, plan_in, cleared, tangent_unit}
+use Rattle.def_tangent.specs.Program.{Carried, helpers_used, parts_used, temps_used, tangent_name, plan_in, cleared, tangent_unit}
 
 -- the helpers' names are of a text
 pub helpers_made : (on : Vars) (c : Code) → AreMadeInside (helpers_used on c)

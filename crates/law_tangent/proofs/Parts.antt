@@ -25,7 +25,7 @@ use Rattle.law_sweep.proofs.TermUses.{IsText, IsOver, over_text, over_treated, n
 use Rattle.law_sweep.proofs.TempsOf.{HasTemps, OwnHolds, temps_same, value_own}
 use Rattle.law_sweep.proofs.Temps.{SameBelow}
 use Rattle.law_sweep.proofs.Guards.{guard, Guarded, guarded}
-use Rattle.law_tangent.specs.TangentOf.{parts_in_where, tangent_term, sum_of, difference_of, power_factor, own_part, parts_where}
+use Rattle.def_tangent.specs.TangentOf.{parts_in_where, tangent_term, sum_of, difference_of, power_factor, own_part, parts_where}
 use Rattle.law_tangent.specs.Bears.{AreWords, OnlyOn, HasTangents}
 use Rattle.law_tangent.proofs.Tangents.{power_tangent-word, tan-word, tan-inactive}
 

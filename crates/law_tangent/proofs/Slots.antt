@@ -20,7 +20,7 @@ use Rattle.def_sweep.specs.MarkedAdjoint.{shadow_flags, joined_by}
 use Rattle.law_sweep.proofs.ScalarSlots.{direction, paired}
 use Rattle.def_names.proofs.Variables.{or_false}
 use Rattle.law_sweep.proofs.Rows.{from_map, AreSized}
-use Rattle.law_tangent.specs.IsTangent.{AllWords, AreAllWords, AreHandedIn}
+use Rattle.def_tangent.specs.IsTangent.{AllWords, AreAllWords, AreHandedIn}
 
 -- ---- the direction
 

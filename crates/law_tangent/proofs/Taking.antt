@@ -1,5 +1,5 @@
 -- Which units are emitted: a unit whose tangent is calls units whose tangents are, or units that stay; and these call no others.
-use Rattle.std.proofs.Common.{◌≡◌, ℕ, zero, suc, Bool, true, false, List, [], ◌∷◌, refl, ap, ◌∙◌, arith}
+use Rattle.std.proofs.Common.{◌≡◌, ℕ, zero, suc, Bool, true, false, List, [], ◌∷◌, refl, ap, ◌∙◌}
 use Rattle.std.specs.Prelude.{◌&&◌, length, not}
 use Rattle.adj_tree.specs.Code.{name_eq, Procedure}
 use Rattle.adj_tree.proofs.Names.{name_refl}
@@ -7,7 +7,7 @@ use Rattle.def_names.proofs.Variables.{and_true, or_left, or_right}
 use Rattle.def_sweep.specs.Program.{calls_some, reached_after}
 use Rattle.law_sweep.specs.Source.{is_unit}
 use Rattle.law_sweep.proofs.Rounds.{either, calls_rise, calls_there, IsLast, rounds_last, reached_last}
-use Rattle.law_tangent.specs.Program.{Carried, takes, made_after, has_tangent, stays}
+use Rattle.def_tangent.specs.Program.{Carried, takes, made_after, has_tangent, stays}
 
 -- both are true
 conj : (a b : Bool) → a ≡ true → b ≡ true → (a && b) ≡ true

@@ -17,11 +17,12 @@ use Rattle.law_sweep.specs.Pairs.{with_tangents, on_words, on_duals}
 use Rattle.def_sweep.specs.Plan.{names_of, actuals_named}
 use Rattle.def_sweep.specs.Callees.{nothing}
 use Rattle.law_sweep.specs.Laws.{point_inside, last_point}
-use Rattle.law_sweep.specs.Passing.{bindings, actuals_in, plainly}
+use Rattle.def_sweep.specs.Bindings.{bindings, actuals_in}
+use Rattle.law_sweep.specs.Passing.{plainly}
 use Rattle.law_sweep.proofs.Calls.{with_shadow_shapes}
 use Rattle.law_sweep.proofs.CallSweeps.{names_are}
 use Rattle.law_sweep.proofs.Entering.{actuals_at}
-use Rattle.law_tangent.specs.Forward.{Plan, takes_some, tangent_act, tangents}
+use Rattle.def_tangent.specs.Forward.{Plan, takes_some, tangent_act, tangents}
 use Rattle.law_tangent.specs.Counts.{IsFew, AreFew}
 use Rattle.law_tangent.specs.Bears.{SceneBears}
 use Rattle.law_tangent.specs.Laws.{CalleeFlow, WayFlows, CallFlows, ActFlows, ListFlows, ActTexts, ListTexts}

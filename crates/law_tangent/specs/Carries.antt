@@ -8,7 +8,7 @@ use Rattle.def_meaning.specs.Apart.{AreApart}
 use Rattle.def_sweep.specs.Plan.{IsActual, actuals_named, Schedules}
 use Rattle.def_sweep.specs.Callees.{CalleeFacts}
 use Rattle.law_sweep.specs.Laws.{ListLawsBy}
-use Rattle.law_tangent.specs.Forward.{Callee}
+use Rattle.def_tangent.specs.Forward.{Callee}
 use Rattle.law_tangent.specs.Laws.{CalleeFlow, ListFlows}
 
 -- the variables of two sets

@@ -1,7 +1,7 @@
 -- How many statements the tangent puts before those of a list.
 use Rattle.std.specs.Prelude.{◌≤◌, ◌+◌, ℕ, suc}
 use Rattle.adj_tree.specs.Code.{Act, assign, choose, loop, during, call, runtime, Code, stop, step}
-use Rattle.law_tangent.specs.Forward.{Plan, before_act}
+use Rattle.def_tangent.specs.Forward.{Plan, before_act}
 
 -- how many statements a list has, bodies aside
 abbrev pub size : Code → ℕ

@@ -11,8 +11,8 @@ use Rattle.def_sweep.specs.Naming.{AreInside}
 use Rattle.def_sweep.specs.Declared.{unmarked}
 use Rattle.def_sweep.specs.Marking.{arrays_of}
 use Rattle.law_sweep.specs.Source.{is_unit}
-use Rattle.law_tangent.specs.Forward.{Callee, tangents}
-use Rattle.law_tangent.specs.Program.{Carried, tangent_name, plan_in, cleared, has_tangent, stays, emitted_units}
+use Rattle.def_tangent.specs.Forward.{Callee, tangents}
+use Rattle.def_tangent.specs.Program.{Carried, tangent_name, plan_in, cleared, has_tangent, stays, emitted_units}
 use Rattle.law_tangent.specs.Units.{HasTangent}
 
 -- what calls know of a unit

@@ -2,7 +2,7 @@
 use Rattle.std.specs.Prelude.{ℕ, ℤ, pos, List, [], ◌∷◌, false, ◌||◌, ◌&&◌, codes}
 use Rattle.adj_tree.specs.Code.{plain, name_eq, var_eq, Term, lit, var, elem, neg, bin, pow, power_of, plus, minus, times, greater, none, more, compare, is_greater, is_less, assign, choose, loop, during, call, runtime, zero_array, unmarked, stop, step, fixed, Declaration, Procedure}
 use Rattle.def_names.specs.Numbers.{Vars}
-use Rattle.law_tangent.specs.Program.{Carried}
+use Rattle.def_tangent.specs.Program.{Carried}
 
 abbrev v : List ℕ → Term
 v x = var (plain x)

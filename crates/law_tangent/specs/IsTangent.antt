@@ -1,12 +1,6 @@
--- What it means that a program is the tangent of a program for a head: its run on values and tangents is the dual run of the head.
---
--- The dual run begins with the values of an input and with the tangents of a direction, which are 0 for all but the independents. The run of
--- the tangent begins with the same values and with the same tangents of the independents; the other tangents are whatever the caller hands
--- in, since the tangent clears them first. The tangents of the independents are words. An input that is read has no others; and no text could do
--- it for other integers, since the dual run has residues where the text copies a tangent as it is.
-use Rattle.std.specs.Prelude.{◌≡◌, ◌≤◌, ℕ, ◌+◌, ◌*◌, ℤ, List, [], ◌∷◌, map, length, Bool, true, false, Some, None}
+-- What it means that a program is the tangent of a program in kernel form for a head, with a bound on the statements of its run.
+use Rattle.std.specs.Prelude.{◌≡◌, ◌≤◌, ℕ, ◌+◌, ◌*◌, ℤ, List, [], ◌∷◌, map, length, Bool, true, Some, None}
 use Rattle.adj_tree.specs.Code.{Procedure}
-use Rattle.adj_word.specs.Word.{IsWord}
 use Rattle.def_meaning.specs.Trap.{Trap}
 use Rattle.def_meaning.specs.Numbers.{words, duals}
 use Rattle.def_meaning.specs.Scene.{Stand, Done, Trapped}
@@ -16,24 +10,8 @@ use Rattle.def_meaning.specs.Units.{Slot, Output, fits, run_unit}
 use Rattle.def_sweep.specs.Tangents.{AreAlike, IsDirection, OthersAreZero, cells_of, tangents_of, with_direction}
 use Rattle.def_sweep.specs.MarkedAdjoint.{shadow_flags, joined_by}
 use Rattle.def_sweep.specs.Declared.{unit_at}
-use Rattle.law_tangent.specs.Program.{Carried, tangent_name}
-
--- each of the tangents that are handed in is a word
-abbrev pub AllWords : List ℤ → Type 0
-AllWords [] = Unit {0}
-AllWords (z ∷ zs) = IsWord z × AllWords zs
-
-abbrev pub AreAllWords : List (List ℤ) → Type 0
-AreAllWords [] = Unit {0}
-AreAllWords (d ∷ ds) = AllWords d × AreAllWords ds
-
--- the tangents that are handed in for the independents are those of the direction; for the others they may be anything
-abbrev pub AreHandedIn : List Bool → List (List ℤ) → List (Slot ℤ) → Type 0
-AreHandedIn [] ds zs = Unit {0}
-AreHandedIn (b ∷ vars) [] zs = Unit {0}
-AreHandedIn (b ∷ vars) (d ∷ ds) [] = Unit {0}
-AreHandedIn (true ∷ vars) (d ∷ ds) (z ∷ zs) = (z.cells ≡ d) × AreHandedIn vars ds zs
-AreHandedIn (false ∷ vars) (d ∷ ds) (z ∷ zs) = AreHandedIn vars ds zs
+use Rattle.def_tangent.specs.Program.{Carried, tangent_name}
+use Rattle.def_tangent.specs.IsTangent.{AreAllWords, AreHandedIn, TangentTraps}
 
 -- where the dual run is done with `out` after `used` statements: the run of the tangent with enough statements is done as follows
 pub record TangentDone (w : ℕ) (flags : List Bool) (qs : List Procedure) (a : Procedure) (input : List (Slot ℤ)) (out : Output (ℤ × ℤ)) (used dummies : ℕ) : Type 0 where
@@ -47,13 +25,6 @@ pub record TangentDone (w : ℕ) (flags : List Bool) (qs : List Procedure) (a : 
   pub others : OthersAreZero flags (tangents_of (cells_of out.slots))
   pub tape : output.tape ≡ []
   pub cost : spent ≤ w * used + dummies
-
--- where the dual run traps at a line: so does the run of the tangent, perhaps by another kind of trap
-pub record TangentTraps (qs : List Procedure) (a : Procedure) (input : List (Slot ℤ)) (line : ℕ) : Type 0 where
-  pub enough : ℕ
-  pub kind : Trap
-  pub stands : Stand
-  pub runs : (k : ℕ) → enough ≤ k → run_unit words qs a input [] None k ≡ Trapped kind line stands
 
 -- The unit of qs with the name of u's tangent is a tangent of the unit u of ps, where the flags tell u's independents and `c` what carries a
 -- tangent. Each dummy that carries one is followed by it.

@@ -12,7 +12,7 @@ use Rattle.def_sweep.specs.Plan.{IsActual, actuals_named}
 use Rattle.def_sweep.specs.Callees.{nothing}
 use Rattle.law_sweep.specs.Laws.{just, point_inside, last_point}
 use Rattle.law_sweep.specs.Kernel.{AllText, AssignmentFits}
-use Rattle.law_tangent.specs.Forward.{Callee}
+use Rattle.def_tangent.specs.Forward.{Callee}
 
 -- ---- the flow of tangents
 

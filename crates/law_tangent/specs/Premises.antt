@@ -6,7 +6,7 @@ use Rattle.def_meaning.specs.Written.{find_unit}
 use Rattle.def_names.specs.Numbers.{Vars, everything}
 use Rattle.law_tangent.specs.Laws.{CalleeFlow}
 use Rattle.law_tangent.specs.Units.{UnitFits}
-use Rattle.law_tangent.specs.Program.{tangent_program, Carried}
+use Rattle.def_tangent.specs.Program.{tangent_program, Carried}
 use Rattle.law_tangent.specs.Sizes.{AreLight}
 use Rattle.law_tangent.specs.Emitted.{callee_of}
 use Rattle.law_tangent.specs.Examples.{square, square_carried}

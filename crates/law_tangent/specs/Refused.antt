@@ -2,7 +2,7 @@
 use Rattle.std.specs.Prelude.{ℕ, [], ◌∷◌, true, false, codes}
 use Rattle.adj_tree.specs.Code.{plain, times, plus, var, none, bin, assign, step, stop, Procedure}
 use Rattle.def_names.specs.Numbers.{everything}
-use Rattle.law_tangent.specs.Program.{Carried}
+use Rattle.def_tangent.specs.Program.{Carried}
 use Rattle.law_tangent.specs.IsTangent.{IsTangent}
 
 -- SUBROUTINE P(X); X=X*X

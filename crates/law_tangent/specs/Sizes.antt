@@ -2,7 +2,7 @@
 use Rattle.std.specs.Prelude.{◌≤◌, ◌+◌, ◌*◌, ℕ}
 use Rattle.adj_tree.specs.Code.{Act, assign, choose, loop, during, call, runtime, Code, stop, step}
 use Rattle.adj_tree.specs.Size.{term_nodes, terms_nodes}
-use Rattle.law_tangent.specs.Forward.{Plan}
+use Rattle.def_tangent.specs.Forward.{Plan}
 use Rattle.law_tangent.specs.Counts.{AreFew}
 
 -- no assignment of the list, in bodies either, has m or more nodes; and m is above 0

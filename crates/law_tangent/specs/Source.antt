@@ -12,7 +12,7 @@ use Rattle.def_sweep.specs.Marking.{full_facts, first_statement, entry_point, en
 use Rattle.law_sweep.specs.Source.{SourceFits}
 use Rattle.law_tangent.specs.Laws.{CalleeFlow, WayFlows, ListFlows}
 use Rattle.law_tangent.specs.Sizes.{AreLight}
-use Rattle.law_tangent.specs.Program.{Carried, callee_in, has_tangent, tangent_program}
+use Rattle.def_tangent.specs.Program.{Carried, callee_in, has_tangent, tangent_program}
 use Rattle.law_tangent.specs.IsTangent.{IsTangent}
 
 -- what calls know of the unit of a name, where these variables may have a tangent at the points of the program

@@ -12,9 +12,9 @@ use Rattle.def_names.specs.Numbers.{Vars}
 use Rattle.def_meaning.specs.Apart.{has_name}
 use Rattle.law_sweep.specs.Pairs.{Key, Words, SamePlain, with_tangents, on_words, on_duals}
 use Rattle.law_sweep.specs.Passing.{plainly}
-use Rattle.law_tangent.specs.Forward.{tangents}
+use Rattle.def_tangent.specs.Forward.{tangents}
 use Rattle.law_tangent.specs.Bears.{AreWords, OnlyOn, NoTapes, SceneBears}
-use Rattle.law_tangent.specs.Program.{cleared}
+use Rattle.def_tangent.specs.Program.{cleared}
 use Rattle.law_tangent.specs.Laws.{CalleeFlow}
 use Rattle.law_tangent.specs.Units.{plan_of, UnitFits, PlainFits}
 

@@ -11,7 +11,7 @@ use Rattle.def_sweep.specs.Callees.{nothing}
 use Rattle.law_sweep.specs.Laws.{last_point}
 use Rattle.law_sweep.specs.Kernel.{AsMany}
 use Rattle.law_sweep.specs.Emitted.{HasUnit}
-use Rattle.law_tangent.specs.Forward.{Callee, Plan, takes_some, tangents}
+use Rattle.def_tangent.specs.Forward.{Callee, Plan, takes_some, tangents}
 use Rattle.law_tangent.specs.Counts.{AreFew}
 use Rattle.law_tangent.specs.Laws.{CalleeFlow, WayFlows, ListFlows, ListTexts}
 

@@ -13,7 +13,7 @@ ghost use Rattle.law_tangent.specs.Emitted.{TangentsThere, StillThere};
 ghost use Rattle.law_tangent.specs.Sizes.{TwiceTheWeight};
 ghost use Rattle.law_tangent.specs.Premises.{ProductIsLight};
 ghost use Rattle.law_tangent.specs.Source.{EmittedIsTangent};
-ghost use Rattle.law_tangent.specs.Program.{tangent_program};
+ghost use Rattle.def_tangent.specs.Program.{tangent_program};
 ghost use Rattle.law_tangent.specs.Premises.{UnitsFit, CalledFit};
 ghost use Rattle.law_tangent.specs.Refused.{BehindIsRefused};
 ghost use Rattle.law_tangent.specs.Examples.{square, square_carried, square_tangent, powers, powers_carried, powers_tangent, caller, scales, counts, caller_carried, caller_tangent, scales_tangent, branches, branches_carried, branches_tangent, forms, forms_carried, forms_tangent};

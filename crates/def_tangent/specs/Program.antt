@@ -3,6 +3,8 @@ use Rattle.std.specs.Prelude.{ℕ, zero, suc, List, [], ◌∷◌, ◌++◌, map
 use Rattle.adj_tree.specs.Code.{Var, plain, shadow, work, temp, name_eq, lit, none, Act, assign, choose, loop, during, call, runtime, zero_array, Code, stop, step, Procedure}
 use Rattle.def_meaning.specs.Append.{◌+++◌, one}
 use Rattle.def_names.specs.Variables.{variables}
+use Rattle.def_names.specs.HeadFaults.{unit_number}
+use Rattle.def_kernel.specs.Stepped.{kernel_of}
 use Rattle.def_sweep.specs.Naming.{tangent_text, Named, unit_names_for}
 use Rattle.def_names.specs.Numbers.{Vars}
 use Rattle.def_sweep.specs.Marked.{names_in}
@@ -11,8 +13,8 @@ use Rattle.def_sweep.specs.AdjointOf.{is_active_where, temps_in_where}
 use Rattle.def_sweep.specs.Names.{source_names, named_after}
 use Rattle.def_sweep.specs.Marking.{arrays_of}
 use Rattle.def_sweep.specs.Program.{calls_some, is_reached, made_unit_for}
-use Rattle.law_tangent.specs.TangentOf.{parts_in_where}
-use Rattle.law_tangent.specs.Forward.{Callee, Plan, takes_some, tangents}
+use Rattle.def_tangent.specs.TangentOf.{parts_in_where}
+use Rattle.def_tangent.specs.Forward.{Callee, Plan, takes_some, tangents}
 
 -- ---- names
 
@@ -130,3 +132,7 @@ emitted_for c ps vars (u ∷ us) = emitted_units c ps u vars ps
 -- for the head of this number, of which the flags tell the independents
 abbrev pub tangent_program : Carried → List Procedure → ℕ → List Bool → List Procedure
 tangent_program c ps head vars = emitted_for c ps vars (unit_at head ps)
+
+-- for the kernel of a program of a user, with the unit of a name as the head
+abbrev pub tangent_for : Carried → List Procedure → List ℕ → List Bool → List Procedure
+tangent_for c ps name vars = tangent_program c (kernel_of ps) (unit_number (kernel_of ps) name) vars

@@ -5,8 +5,8 @@ use Rattle.def_meaning.specs.Append.{◌+++◌, one}
 use Rattle.def_names.specs.Numbers.{Vars}
 use Rattle.def_sweep.specs.Marked.{code_if}
 use Rattle.def_sweep.specs.Plan.{names_of}
-use Rattle.law_sweep.specs.Passing.{bindings, actuals_in}
-use Rattle.law_tangent.specs.TangentOf.{before_assignment}
+use Rattle.def_sweep.specs.Bindings.{bindings, actuals_in}
+use Rattle.def_tangent.specs.TangentOf.{before_assignment}
 
 -- what the tangent of a call knows of the unit that is called
 pub record Callee : Type 0 where
