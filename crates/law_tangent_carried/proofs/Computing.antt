@@ -23,7 +23,8 @@ use Rattle.def_flow.proofs.Sets.{both}
 use Rattle.def_flow.proofs.PartsListed.{scope_covers}
 use Rattle.def_flow.proofs.FlowListed.{varied_lists}
 use Rattle.def_flow.proofs.ShadowListed as shadows
-use Rattle.law_tangent_carried.specs.Carried.{CarriesOutright, independent, dependent, somewhere, LendsTangent, handed, CarriesTangent, IsCarrying}
+use Rattle.def_flow.specs.Carried.{CarriesOutright, LendsTangent, CarriesTangent, IsCarrying}
+use Rattle.def_flow.specs.Carried.{independent, dependent, somewhere, handed}
 use Rattle.law_tangent_carried.specs.Computed.{carried_starts, carried_steps, with_starts, with_scope, carrying}
 
 -- a set holds just what lists reach

@@ -10,13 +10,13 @@ use Rattle.def_sweep.specs.Naming.{naming}
 use Rattle.def_sweep.specs.Declared.{unit_name, unmarked, unit_at}
 use Rattle.def_sweep.specs.AdjointOf.{is_active_where, has_own_where, temps_in_where, temps_where}
 use Rattle.def_sweep.specs.Plan.{names_of}
-use Rattle.law_sweep.specs.Passing.{Bindings, bindings, actuals_in}
+use Rattle.def_sweep.specs.Bindings.{Bindings, bindings, actuals_in}
 use Rattle.def_sweep.specs.Marking.{arrays_of}
 use Rattle.law_emitted.specs.Emitted.{act_deepest, deepest, AreShallow}
 use Rattle.law_emitted.proofs.Depths.{deep_append, deep_own, some_depth, deep_temps, renamed_list}
-use Rattle.law_tangent.specs.TangentOf.{parts_in_where, tangent_term, sum_of, difference_of, own_part, parts_where, before_assignment}
-use Rattle.law_tangent.specs.Forward.{Plan, takes_some, before_act, tangent_act, tangents}
-use Rattle.law_tangent.specs.Program.{Carried, plan_in, cleared, has_tangent, stays, made_names, names_of_unit, tangent_unit, emitted_units, emitted_for}
+use Rattle.def_tangent.specs.TangentOf.{parts_in_where, tangent_term, sum_of, difference_of, own_part, parts_where, before_assignment}
+use Rattle.def_tangent.specs.Forward.{Plan, takes_some, before_act, tangent_act, tangents}
+use Rattle.def_tangent.specs.Program.{Carried, plan_in, cleared, has_tangent, stays, made_names, names_of_unit, tangent_unit, emitted_units, emitted_for}
 use Rattle.law_tangent_carried.specs.Emitted.{KeepsDepth}
 
 -- ---- assignments

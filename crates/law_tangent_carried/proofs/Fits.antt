@@ -40,13 +40,14 @@ use Rattle.law_analysed.proofs.Reaching.{taking}
 use Rattle.law_tangent.specs.Laws.{CalleeFlow, WayFlows, ListFlows, ListTexts}
 use Rattle.law_tangent.specs.Units.{CallTexts}
 use Rattle.law_tangent.specs.Sizes.{AreLight}
-use Rattle.law_tangent.specs.Program.{Carried, dummies_of, has_tangent}
+use Rattle.def_tangent.specs.Program.{Carried, dummies_of, has_tangent}
 use Rattle.law_tangent.specs.Source.{flow_in, UnitFlows, TangentFits}
 use Rattle.law_tangent.proofs.Fitting.{dummies_are, dummies_in}
 use Rattle.law_tangent.proofs.Taking.{made_reached}
 use Rattle.law_tangent.proofs.Texts.{text_list}
 use Rattle.law_tangent.proofs.Emitting.{emitted_is_tangent}
-use Rattle.law_tangent_carried.specs.Carried.{IsCarrying, carried_by, CarryingFits, CarryingIsTangent}
+use Rattle.def_flow.specs.Carried.{IsCarrying, carried_by}
+use Rattle.law_tangent_carried.specs.Carried.{CarryingFits, CarryingIsTangent}
 use Rattle.law_tangent_carried.proofs.Flows.{covers, passes, list_flows}
 
 module _ (rules : Rules) (k : Problem) (checked : IsChecked rules k.units) (f : ℕ → Vars) (on : ℕ → Vars) (is : IsCarrying k f on) (top : Procedure) (at : unit_at k.head k.units ≡ top ∷ []) where

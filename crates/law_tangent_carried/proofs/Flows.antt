@@ -32,10 +32,11 @@ use Rattle.law_analysed.proofs.Numbers.{Placed, placed, has_part}
 use Rattle.law_analysed.proofs.Given.{bound_has, passed_among}
 use Rattle.law_tangent.specs.Laws.{CalleeFlow, WayFlows, AssignmentFlows, LoopFlows, CallFlows, ActFlows, ListFlows, ActTexts, ListTexts}
 use Rattle.law_tangent.specs.Units.{CallText, CallTexts}
-use Rattle.law_tangent.specs.Program.{dummies_of}
+use Rattle.def_tangent.specs.Program.{dummies_of}
 use Rattle.law_tangent.specs.Source.{flow_in}
 use Rattle.law_tangent.proofs.Fitting.{dummies_are}
-use Rattle.law_tangent_carried.specs.Carried.{somewhere, handed, IsCarrying, carried_by}
+use Rattle.def_flow.specs.Carried.{IsCarrying, carried_by}
+use Rattle.def_flow.specs.Carried.{somewhere, handed}
 
 abbrev all : List ℕ → Bool
 all n = true

@@ -10,16 +10,16 @@ use Rattle.def_names.specs.Numbers.{Vars}
 use Rattle.def_sweep.specs.Marked.{code_if}
 use Rattle.def_sweep.specs.AdjointOf.{is_active_where, temps_in_where}
 use Rattle.def_sweep.specs.Plan.{names_of}
-use Rattle.law_sweep.specs.Passing.{bindings, actuals_in}
+use Rattle.def_sweep.specs.Bindings.{bindings, actuals_in}
 use Rattle.law_emitted.proofs.Lists.{Each}
 use Rattle.law_emitted.specs.Shadowed.{AreCarried}
-use Rattle.law_emitted.proofs.Over.{OverActuals, OverCode, OverAct, over_append, place_other, names_stand}
-use Rattle.law_tangent.specs.TangentOf.{parts_in_where, before_assignment}
-use Rattle.law_tangent.specs.Forward.{Plan, takes_some, before_act, tangent_act, tangents}
-use Rattle.law_tangent.specs.Program.{parts_act, parts_used, temps_act, temps_used, cleared}
+use Rattle.law_emitted.proofs.Over.{OverActuals, OverCode, OverAct, Any, over_append, place_other, names_stand}
+use Rattle.def_tangent.specs.TangentOf.{parts_in_where, before_assignment}
+use Rattle.def_tangent.specs.Forward.{Plan, takes_some, before_act, tangent_act, tangents}
+use Rattle.def_tangent.specs.Program.{parts_act, parts_used, temps_act, temps_used, cleared}
 use Rattle.law_tangent_carried.proofs.Formed.{before_over}
 
--- what the tangents of calls take: the name of a tangent, and actuals that carry what their dummies do; and C holds of each such CALL
+-- what the tangents of calls take: the name of a tangent, and actuals that carry what their dummies do; and C holds of each CALL, as it is then
 abbrev mutual
   pub TakesAct : (List ℕ → Terms → Type 0) → Plan → Act → Type 0
   TakesAct C p (assign x subs e) = Unit {0}
@@ -28,7 +28,8 @@ abbrev mutual
   TakesAct C p (during c body) = Takes C p body
   TakesAct C p (call name args) =
       let g = p.callees name in
-      takes_some g.carried g.dummies ≡ true → IsName g.tangent × ((is_runtime g.tangent ≡ false) × (AreCarried g.carried p.carried g.dummies (names_of args) × C g.tangent (actuals_in (bindings g.carried g.dummies (names_of args)))))
+      (takes_some g.carried g.dummies ≡ true → IsName g.tangent × ((is_runtime g.tangent ≡ false) × (AreCarried g.carried p.carried g.dummies (names_of args) × C g.tangent (actuals_in (bindings g.carried g.dummies (names_of args))))))
+      × (takes_some g.carried g.dummies ≡ false → C name args)
   TakesAct C p (runtime r) = Unit {0}
 
   pub Takes : (List ℕ → Terms → Type 0) → Plan → Code → Type 0
@@ -47,7 +48,7 @@ module _ (Q : Var → Option ℕ → Type 0) (A : Var → Type 0) (C : List ℕ 
       go true k ih = (e.0, (whole_stands a (h.0 k) e.0, ih))
       go false k ih = (e.0, ih)
 
-  before_is : (line : ℕ) (a : Act) → OverAct Q A C a → parts_act p.carried a ≤ works → temps_act p.carried a ≤ temps → OverCode Q A C (before_act p line a)
+  before_is : (line : ℕ) (a : Act) → OverAct Q A Any a → parts_act p.carried a ≤ works → temps_act p.carried a ≤ temps → OverCode Q A C (before_act p line a)
   before_is line (assign (plain x) subs e) o parts temps_ = go (p.carried (plain x)) refl parts temps_
     where
       least : (b : Bool) → (if b then temps_in_where p.carried e else 0) ≤ temps → b ≡ true → temps_in_where p.carried e ≤ temps
@@ -75,27 +76,27 @@ module _ (Q : Var → Option ℕ → Type 0) (A : Var → Type 0) (C : List ℕ 
   before_is line (runtime r) o parts temps_ = tt
 
   mutual
-    act_over : (a : Act) → OverAct Q A C a → TakesAct C p a → parts_act p.carried a ≤ works → temps_act p.carried a ≤ temps → OverAct Q A C (tangent_act p a)
+    act_over : (a : Act) → OverAct Q A Any a → TakesAct C p a → parts_act p.carried a ≤ works → temps_act p.carried a ≤ temps → OverAct Q A C (tangent_act p a)
     act_over (assign x subs e) o t h g = o
     act_over (choose c a b) o t h g = (o.0, (list_over a o.1.0 t.0 (omega (arith, h)) (omega (arith, g)), list_over b o.1.1 t.1 (omega (arith, h)) (omega (arith, g))))
     act_over (loop x first last by body m) o t h g = (o.0, (o.1.0, (o.1.1.0, (o.1.1.1.0, (list_over body o.1.1.1.1.0 t h g, o.1.1.1.1.1)))))
     act_over (during c body) o t h g = (o.0, list_over body o.1 t h g)
-    act_over (call name args) o t h g = go (takes_some (p.callees name).carried (p.callees name).dummies) t
+    act_over (call name args) o t h g = go (takes_some (p.callees name).carried (p.callees name).dummies) t.0 t.1
       where
-        go : (b : Bool) → (b ≡ true → IsName (p.callees name).tangent × ((is_runtime (p.callees name).tangent ≡ false) × (AreCarried (p.callees name).carried p.carried (p.callees name).dummies (names_of args) × C (p.callees name).tangent (actuals_in (bindings (p.callees name).carried (p.callees name).dummies (names_of args)))))) →
+        go : (b : Bool) → (b ≡ true → IsName (p.callees name).tangent × ((is_runtime (p.callees name).tangent ≡ false) × (AreCarried (p.callees name).carried p.carried (p.callees name).dummies (names_of args) × C (p.callees name).tangent (actuals_in (bindings (p.callees name).carried (p.callees name).dummies (names_of args)))))) → (b ≡ false → C name args) →
             OverAct Q A C (if b then call (p.callees name).tangent (actuals_in (bindings (p.callees name).carried (p.callees name).dummies (names_of args))) else call name args)
-        go true u = let v = u refl in (v.0, (bound_over (p.callees name).carried (p.callees name).dummies (names_of args) v.1.1.0 (names_stand Q A args o.1.0), (v.1.0, v.1.1.1)))
-        go false u = o
+        go true u w = let v = u refl in (v.0, (bound_over (p.callees name).carried (p.callees name).dummies (names_of args) v.1.1.0 (names_stand Q A args o.1.0), (v.1.0, v.1.1.1)))
+        go false u w = (o.0, (o.1.0, (o.1.1.0, w refl)))
     act_over (runtime r) o t h g = o
 
-    pub list_over : (c : Code) → OverCode Q A C c → Takes C p c → parts_used p.carried c ≤ works → temps_used p.carried c ≤ temps → OverCode Q A C (tangents p c)
+    pub list_over : (c : Code) → OverCode Q A Any c → Takes C p c → parts_used p.carried c ≤ works → temps_used p.carried c ≤ temps → OverCode Q A C (tangents p c)
     list_over stop o t h g = tt
     list_over (step line a rest) o t h g =
         over_append Q A C (before_act p line a) (step line (tangent_act p a) (tangents p rest)) (before_is line a o.0 (omega (arith, h)) (omega (arith, g)))
         (act_over a o.0 t.0 (omega (arith, h)) (omega (arith, g)), list_over rest o.1 t.1 (omega (arith, h)) (omega (arith, g)))
 
   -- tangents that are cleared
-  pub cleared_over : (arrays : Vars) (line : ℕ) (xs : List (List ℕ)) → ((x : List ℕ) → arrays (plain x) ≡ true → Q (shadow x) None → A (shadow x)) → ((x : List ℕ) → arrays (plain x) ≡ false → Q (plain x) None → Q (plain x) (Some 0)) → Each (λ x. Q (plain x) None × (p.carried (plain x) ≡ true)) xs → OverCode Q A C (cleared arrays line xs)
+  pub cleared_over : (arrays : Vars) (line : ℕ) (xs : List (List ℕ)) → ((x : List ℕ) → arrays (plain x) ≡ true → p.carried (plain x) ≡ true → A (shadow x)) → ((x : List ℕ) → arrays (plain x) ≡ false → Q (plain x) None → Q (plain x) (Some 0)) → Each (λ x. Q (plain x) None × (p.carried (plain x) ≡ true)) xs → OverCode Q A C (cleared arrays line xs)
   cleared_over arrays line [] whole scalar e = tt
   cleared_over arrays line (x ∷ xs) whole scalar e = go (arrays (plain x)) refl (cleared_over arrays line xs whole scalar e.1)
     where
@@ -103,5 +104,5 @@ module _ (Q : Var → Option ℕ → Type 0) (A : Var → Type 0) (C : List ℕ 
       zero_word = omega arith
 
       go : (b : Bool) → arrays (plain x) ≡ b → OverCode Q A C (cleared arrays line xs) → OverCode Q A C ((if b then one line (runtime (zero_array (shadow x))) else one line (assign (shadow x) none (lit (pos 0)))) +++ cleared arrays line xs)
-      go true k ih = let q = whole_stands x e.0.1 e.0.0 in ((q, whole x k q), ih)
+      go true k ih = ((whole_stands x e.0.1 e.0.0, whole x k e.0.1), ih)
       go false k ih = ((shadow_stands x 0 e.0.1 (scalar x k e.0.0), zero_word), ih)

@@ -10,8 +10,9 @@ use Rattle.law_meaning.specs.Unlined.{unlined_stand, unlined_output, unlined_end
 use Rattle.law_meaning.proofs.Costs.{one_end}
 use Rattle.law_meaning.proofs.Unlined.{runs_alike}
 use Rattle.def_kernel.specs.Stepped.{kernel_of}
-use Rattle.law_tangent.specs.Program.{tangent_name}
-use Rattle.law_tangent.specs.IsTangent.{TangentDone, TangentTraps}
+use Rattle.def_tangent.specs.Program.{tangent_name}
+use Rattle.law_tangent.specs.IsTangent.{TangentDone}
+use Rattle.def_tangent.specs.IsTangent.{TangentTraps}
 use Rattle.law_tangent_carried.specs.Lines.{OtherLines, AcceptedReads}
 use Rattle.law_tangent_carried.proofs.Through.{accepted_is_tangent}
 use Rattle.law_sweep.proofs.Lines.{unlined_more, ends_alike, there}

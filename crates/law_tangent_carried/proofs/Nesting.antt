@@ -1,5 +1,5 @@
 -- A tangent is nested no deeper than what it is of.
-use Rattle.std.proofs.Common.{ℕ, ◌+◌, ◌≤◌, Bool, true, false, List, [], ◌∷◌, ◌++◌, map, sym, subst, arith, if◌then◌else◌}
+use Rattle.std.proofs.Common.{ℕ, ◌≤◌, Bool, true, false, List, [], ◌∷◌, ◌++◌, map, sym, subst, arith, if◌then◌else◌}
 use Rattle.std.specs.Prelude.{pos}
 use Rattle.adj_tree.specs.Code.{plain, shadow, helper, lit, none, Act, assign, choose, loop, during, call, runtime, zero_array, Code, stop, step, name_eq, Procedure}
 use Rattle.adj_tree.specs.Size.{act_depth, code_depth, IsNested}
@@ -9,11 +9,11 @@ use Rattle.def_sweep.specs.Marked.{code_if, names_in}
 use Rattle.def_sweep.specs.Naming.{naming}
 use Rattle.def_sweep.specs.Declared.{unit_name, unmarked, unit_at}
 use Rattle.def_sweep.specs.Plan.{names_of}
-use Rattle.law_sweep.specs.Passing.{bindings, actuals_in}
+use Rattle.def_sweep.specs.Bindings.{bindings, actuals_in}
 use Rattle.def_sweep.specs.Marking.{arrays_of}
-use Rattle.law_tangent.specs.Forward.{Plan, takes_some, before_act, tangent_act, tangents}
-use Rattle.law_tangent.specs.TangentOf.{before_assignment}
-use Rattle.law_tangent.specs.Program.{Carried, plan_in, cleared, has_tangent, stays, made_names, names_of_unit, tangent_unit, emitted_units, emitted_for}
+use Rattle.def_tangent.specs.Forward.{Plan, takes_some, before_act, tangent_act, tangents}
+use Rattle.def_tangent.specs.TangentOf.{before_assignment}
+use Rattle.def_tangent.specs.Program.{Carried, plan_in, cleared, has_tangent, stays, made_names, names_of_unit, tangent_unit, emitted_units, emitted_for}
 use Rattle.law_tangent.proofs.Straight.{AreAside}
 use Rattle.law_tangent.proofs.Asides.{aside_before}
 use Rattle.law_tangent_carried.specs.Emitted.{KeepsNesting}

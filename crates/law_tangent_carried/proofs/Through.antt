@@ -20,10 +20,13 @@ use Rattle.law_kernel.proofs.WholeKernels.{whole_units, whole_means_alike}
 use Rattle.law_emitted.proofs.Heaviest.{heaviest_in, all_weigh}
 use Rattle.law_emitted.proofs.Directions.{direction_fits}
 use Rattle.law_emitted.proofs.Kernels.{kernel_checked, numbered, found_name, IsKernelUnit, becomes}
-use Rattle.law_tangent.specs.Program.{Carried, tangent_name}
-use Rattle.law_tangent.specs.IsTangent.{AreAllWords, AreHandedIn, TangentDone, TangentTraps, IsTangentOf}
-use Rattle.law_tangent_carried.specs.Carried.{carried_by}
-use Rattle.law_tangent_carried.specs.Source.{SourceDone, IsTangentFor, KernelsTangent, kernel_problem, AcceptedIsTangent}
+use Rattle.def_tangent.specs.Program.{Carried, tangent_name}
+use Rattle.law_tangent.specs.IsTangent.{TangentDone, IsTangentOf}
+use Rattle.def_tangent.specs.IsTangent.{AreAllWords, AreHandedIn, TangentTraps}
+use Rattle.def_flow.specs.Carried.{carried_by}
+use Rattle.law_tangent_carried.specs.Source.{SourceDone, IsTangentFor}
+use Rattle.def_planned.specs.Planned.{kernel_problem}
+use Rattle.law_tangent_carried.specs.Source.{KernelsTangent, AcceptedIsTangent}
 use Rattle.law_tangent_carried.proofs.Fits.{carrying_is_tangent}
 
 module _ (w : ℕ) (on : Carried) (ps : List Procedure) (acc : IsAccepted ps) (name : List ℕ) (u v : Procedure) (found : find_unit ps name ≡ Some u) (kernel : find_unit (kernel_of ps) name ≡ Some v) (vars : List Bool) (qs : List Procedure) (h : IsTangentOf w on (kernel_of ps) v vars qs) where

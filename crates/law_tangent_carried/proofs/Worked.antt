@@ -6,7 +6,7 @@ use Rattle.def_names.specs.Fault.{source_rules}
 use Rattle.adj_tree.specs.Code.{Declaration}
 use Rattle.law_emitted.specs.Checked.{IsChecked}
 use Rattle.law_tangent.specs.Examples.{caller, scales, counts}
-use Rattle.law_tangent_carried.specs.Carried.{IsCarrying}
+use Rattle.def_flow.specs.Carried.{IsCarrying}
 use Rattle.law_flow.specs.Computed.{by_point}
 use Rattle.law_kernel.specs.Sound.{IsAccepted}
 use Rattle.law_tangent_carried.specs.Computed.{carrying}

@@ -1,8 +1,8 @@
 -- What is emitted for a checked program is written.
-use Rattle.std.proofs.Common.{◌≡◌, ℕ, zero, suc, ◌≤◌, ◌⊎◌, inl, inr, Bool, true, false, List, [], ◌∷◌, ◌++◌, map, refl, sym, ap, ◌∙◌, subst, arith, codes, if◌then◌else◌}
+use Rattle.std.proofs.Common.{◌≡◌, ℕ, suc, ◌≤◌, Bool, true, false, List, [], ◌∷◌, ◌++◌, map, refl, sym, ap, ◌∙◌, subst, arith, codes, if◌then◌else◌}
 use Rattle.std.specs.Prelude.{Option, Some, None}
 use Rattle.std.proofs.lemmas.List.Elements.{All-nil, All-cons}
-use Rattle.adj_tree.specs.Code.{Var, plain, shadow, helper, work, temp, name_eq, Act, assign, choose, loop, during, call, runtime, Code, stop, step, Procedure}
+use Rattle.adj_tree.specs.Code.{Var, plain, shadow, helper, work, temp, Act, assign, choose, loop, during, call, runtime, Code, stop, step, Procedure}
 use Rattle.def_text.specs.Written.{IsName, IsWrittenProcedure, IsWritten}
 use Rattle.def_meaning.specs.Append.{◌+++◌}
 use Rattle.def_meaning.specs.Written.{find_unit}
@@ -16,9 +16,8 @@ use Rattle.def_sweep.specs.Facts.{In}
 use Rattle.adj_tree.proofs.Names.{name_refl}
 use Rattle.def_names.specs.Numbers.{Vars, next, behind}
 use Rattle.def_names.specs.Numbering.{point_before, point_after}
-use Rattle.def_sweep.specs.Marked.{names_in}
-use Rattle.def_sweep.specs.Declared.{helpers_from, unit_name, unmarked, unit_at}
-use Rattle.def_names.proofs.Variables.{or_left, or_right, has_apart}
+use Rattle.def_sweep.specs.Declared.{unit_name, unit_at}
+use Rattle.def_names.proofs.Variables.{has_apart}
 use Rattle.def_sweep.specs.Plan.{beside, IsActual, names_of}
 use Rattle.law_sweep.specs.Laws.{point_inside}
 use Rattle.law_sweep.proofs.CallSweeps.{names_are}
@@ -27,8 +26,6 @@ use Rattle.def_sweep.specs.Names.{source_names, named_after}
 use Rattle.def_sweep.specs.Marking.{arrays_of, entry_point, first_statement}
 use Rattle.law_sweep.specs.Source.{is_unit}
 use Rattle.law_sweep.proofs.UnitLists.{found_there}
-use Rattle.law_sweep.proofs.HeadNames.{unmarked_in}
-use Rattle.law_sweep.proofs.Variables.{dummy_among}
 use Rattle.law_emitted.specs.Checked.{IsChecked}
 use Rattle.law_emitted.proofs.Lists.{Each, each_front, each_behind, each_more}
 use Rattle.law_emitted.proofs.Statements.{CallHasNone, call_of_unit}
@@ -36,19 +33,21 @@ use Rattle.law_emitted.proofs.Callings.{Found}
 use Rattle.law_emitted.proofs.Premises.{found}
 use Rattle.law_emitted.specs.Shadowed.{AreCarried}
 use Rattle.law_emitted.proofs.Over.{OverCode, Any, over_append}
-use Rattle.law_emitted.proofs.Sources.{each_name, UnitSound, all_named, all_sound}
-use Rattle.law_emitted.proofs.Tables.{IsFree, AreHelpers, has_var, among, among-append, helpers_append, from_helpers, has_from, has_plain_for, plain_known_for, has_shadow_for, has_helper_for}
-use Rattle.law_emitted.proofs.Units.{each_marked, source_formed, made_written}
+use Rattle.law_emitted.proofs.Sources.{UnitSound, all_named, all_sound}
+use Rattle.law_emitted.proofs.Tables.{IsFree, has_var, among, has_plain_for, plain_known_for, has_shadow_for, has_helper_for}
+use Rattle.law_emitted.proofs.Units.{source_formed, made_written}
 use Rattle.law_emitted.proofs.MadeNames.{IsMadeName, made_no_runtime, made_named}
 use Rattle.def_flow.specs.Problem.{Problem}
-use Rattle.law_tangent.specs.Forward.{tangents}
+use Rattle.def_tangent.specs.Forward.{tangents}
 use Rattle.law_tangent.specs.Laws.{ActFlows, ListFlows}
 use Rattle.law_tangent.specs.Source.{flow_in}
-use Rattle.law_tangent_carried.specs.Carried.{IsCarrying, carried_by}
+use Rattle.def_flow.specs.Carried.{IsCarrying, carried_by}
 use Rattle.law_tangent_carried.specs.Emitted.{TangentIsWritten}
 use Rattle.law_tangent_carried.proofs.Fits.{unit_flows, apart}
-use Rattle.law_tangent.specs.Program.{Carried, tangent_name, dummies_of, plan_in, parts_used, temps_used, helpers_used, cleared, names_of_unit, has_tangent, stays, made_names, tangent_unit, emitted_units, emitted_for}
+use Rattle.def_tangent.specs.Program.{Carried, tangent_name, dummies_of, plan_in, parts_used, temps_used, helpers_used, cleared, names_of_unit, has_tangent, stays, made_names, tangent_unit, emitted_units}
 use Rattle.law_tangent_carried.proofs.Forming.{TakesAct, Takes, list_over, cleared_over}
+use Rattle.law_tangent_carried.proofs.HelpersUsed.{are_helpers, work_among, temp_among}
+use Rattle.law_tangent_carried.proofs.EmittedUnits.{for_head, at_first, at_first_stand}
 
 -- ---- the tangent of a unit
 
@@ -62,9 +61,6 @@ module _ (c : Carried) (ps : List Procedure) (units : List (List ℕ)) (u : Proc
   abbrev ns : List Named
   ns = names_of_unit a units u
 
-  are_helpers : AreHelpers (helpers_used a u.body)
-  are_helpers = helpers_append (helpers_from work 1 (parts_used a u.body)) (helpers_from temp 1 (temps_used a u.body)) (from_helpers work 1 (parts_used a u.body)) (from_helpers temp 1 (temps_used a u.body))
-
   -- a variable that has a name
   abbrev Q : Var → Option ℕ → Type 0
   Q v n = has_var v ns ≡ true
@@ -73,31 +69,31 @@ module _ (c : Carried) (ps : List Procedure) (units : List (List ℕ)) (u : Proc
   A v = Unit {0}
 
   helper_stands : (v : Var) → among v hs ≡ true → Q v (Some 0)
-  helper_stands v h = has_helper_for tangent_text (variables u) units a hs free are_helpers v h
+  helper_stands v h = has_helper_for tangent_text (variables u) units a hs free (are_helpers a u.body) v h
 
   works_stand : (k : ℕ) → 1 ≤ k → k ≤ parts_used a u.body → Q (helper work k) (Some 0)
-  works_stand k low high = helper_stands (helper work k) (among-append (helper work k) (helpers_from work 1 (parts_used a u.body)) (helpers_from temp 1 (temps_used a u.body)) ∙ or_left (among (helper work k) (helpers_from work 1 (parts_used a u.body))) (among (helper work k) (helpers_from temp 1 (temps_used a u.body))) (has_from work k 1 (parts_used a u.body) low (omega arith)))
+  works_stand k low high = helper_stands (helper work k) (work_among a u.body k low high)
 
   temps_stand : (k : ℕ) → 1 ≤ k → k ≤ temps_used a u.body → Q (helper temp k) (Some 0)
-  temps_stand k low high = helper_stands (helper temp k) (among-append (helper temp k) (helpers_from work 1 (parts_used a u.body)) (helpers_from temp 1 (temps_used a u.body)) ∙ or_right (among (helper temp k) (helpers_from work 1 (parts_used a u.body))) (among (helper temp k) (helpers_from temp 1 (temps_used a u.body))) (has_from temp k 1 (temps_used a u.body) low (omega arith)))
+  temps_stand k low high = helper_stands (helper temp k) (temp_among a u.body k low high)
 
   shadow_stands : (x : List ℕ) → a (plain x) ≡ true → has_var (plain x) ns ≡ true → has_var (shadow x) ns ≡ true
-  shadow_stands x k q = has_shadow_for tangent_text (variables u) units a hs free are_helpers x (plain_known_for tangent_text (variables u) units a hs free are_helpers x q) k
+  shadow_stands x k q = has_shadow_for tangent_text (variables u) units a hs free (are_helpers a u.body) x (plain_known_for tangent_text (variables u) units a hs free (are_helpers a u.body) x q) k
 
   body_over : (line : ℕ) (at : List (List ℕ)) → Each (λ x. (has_name x (variables u) ≡ true) × (a (plain x) ≡ true)) at → OverCode Q A Any (cleared (arrays_of u) line at +++ tangents (plan_in c ps u.name) u.body)
   body_over line at stand =
       over_append Q A Any (cleared (arrays_of u) line at) (tangents (plan_in c ps u.name) u.body)
-      (cleared_over Q A Any (plan_in c ps u.name) (parts_used a u.body) (temps_used a u.body) works_stand temps_stand (λ x n k q. shadow_stands x k q) (λ x k q. shadow_stands x k q) (arrays_of u) line at (λ x k q. tt) (λ x k q. q)
-      (each_more (λ x. (has_name x (variables u) ≡ true) × (a (plain x) ≡ true)) (λ x. Q (plain x) None × (a (plain x) ≡ true)) (λ x k. (has_plain_for tangent_text (variables u) units a hs free are_helpers x k.0, k.1)) at stand))
-      (list_over Q A Any (plan_in c ps u.name) (parts_used a u.body) (temps_used a u.body) works_stand temps_stand (λ x n k q. shadow_stands x k q) (λ x k q. shadow_stands x k q) u.body (source_formed tangent_text units u a hs written free are_helpers ps kernel calls) takes (omega arith) (omega arith))
+      (cleared_over Q A Any (plan_in c ps u.name) (parts_used a u.body) (temps_used a u.body) works_stand temps_stand (λ x n k q. shadow_stands x k q) (λ x k q. shadow_stands x k q) (arrays_of u) line at (λ x k m. tt) (λ x k q. q)
+      (each_more (λ x. (has_name x (variables u) ≡ true) × (a (plain x) ≡ true)) (λ x. Q (plain x) None × (a (plain x) ≡ true)) (λ x k. (has_plain_for tangent_text (variables u) units a hs free (are_helpers a u.body) x k.0, k.1)) at stand))
+      (list_over Q A Any (plan_in c ps u.name) (parts_used a u.body) (temps_used a u.body) works_stand temps_stand (λ x n k q. shadow_stands x k q) (λ x k q. shadow_stands x k q) u.body (source_formed tangent_text units u a hs written free (are_helpers a u.body) ps kernel calls) takes (omega arith) (omega arith))
 
   unit_written : (at : List (List ℕ)) → IsName (tangent_name ps u.name) → Each (λ x. (has_name x (variables u) ≡ true) × (a (plain x) ≡ true)) at → IsWrittenProcedure (tangent_unit c ps units u at)
-  unit_written at named stand = made_written tangent_text units u a hs written free are_helpers (tangent_name ps u.name) (cleared (arrays_of u) u.line at +++ tangents (plan_in c ps u.name) u.body) named (body_over u.line at stand)
+  unit_written at named stand = made_written tangent_text units u a hs written free (are_helpers a u.body) (tangent_name ps u.name) (cleared (arrays_of u) u.line at +++ tangents (plan_in c ps u.name) u.body) named (body_over u.line at stand)
 
 -- ---- the names of tangents
 
 -- each is written and has an underscore, by which it isn't a reserved one
-tangent_named : (taken : List (List ℕ)) (us : List Procedure) (name : List ℕ) → Each (λ u. IsName u.name) us → is_unit us name ≡ true → IsMadeName (named_after (codes "_D") taken us name)
+pub tangent_named : (taken : List (List ℕ)) (us : List Procedure) (name : List ℕ) → Each (λ u. IsName u.name) us → is_unit us name ≡ true → IsMadeName (named_after (codes "_D") taken us name)
 tangent_named = made_named (codes "_D") refl refl
 
 -- ---- what calls take
@@ -118,11 +114,14 @@ module _ (c : Carried) (ps : List Procedure) (named : Each (λ u. IsName u.name)
     takes_act i line (choose t a b) w h k = (takes_list (point_before i) (suc i) a w.0.0 (each_front (CallHasNone ps u) (statements a) (statements b) k), takes_list (point_before i) (behind (suc i) a) b w.1.0 (each_behind (CallHasNone ps u) (statements a) (statements b) k))
     takes_act i line (loop x first last by body m) w h k = takes_list (point_inside i) (suc i) body w.1 k
     takes_act i line (during t body) w h k = takes_list (point_inside i) (suc i) body w.1 k
-    takes_act i line (call name args) w h k = λ t.
-        let o = call_of_unit ps u line name args h in
-        let made = tangent_named (source_names ps) ps name named (found_there ps name o.unit o.found).0 in
-        let flows = w.1.1 in
-        (made.0, (made_no_runtime (tangent_name ps name) made, (subst (λ given. AreCarried (c name) (c own) (dummies_of ps name) given) (sym (ap names_of w.1.0 ∙ names_are w.0)) (are_carried (c name) (c own) (dummies_of ps name) w.0 (apart name o.unit o.found) flows.carries), tt)))
+    takes_act i line (call name args) w h k = (
+      λ t.
+          let o = call_of_unit ps u line name args h in
+          let made = tangent_named (source_names ps) ps name named (found_there ps name o.unit o.found).0 in
+          let flows = w.1.1 in
+          (made.0, (made_no_runtime (tangent_name ps name) made, (subst (λ given. AreCarried (c name) (c own) (dummies_of ps name) given) (sym (ap names_of w.1.0 ∙ names_are w.0)) (are_carried (c name) (c own) (dummies_of ps name) w.0 (apart name o.unit o.found) flows.carries), tt))),
+      λ t. tt,
+    )
     takes_act i line (runtime r) w h k = tt
 
     takes_list : (p i : ℕ) (l : Code) → ListFlows (flow_in c f ps) f (c own) p i l → Each (CallHasNone ps u) (statements l) → Takes Any (plan_in c ps own) l
@@ -141,48 +140,32 @@ module _ (rules : Rules) (k : Problem) (checked : IsChecked rules k.units) (f on
   abbrev units : List (List ℕ)
   units = map unit_name ps ++ made_names c ps top.name ps
 
-  own_written : (u : Procedure) → Found ps u → UnitSound ps u → has_tangent c ps top.name u.name ≡ true → (xs : List (List ℕ)) → Each (λ x. (has_name x (variables u) ≡ true) × (c u.name (plain x) ≡ true)) xs → IsWrittenProcedure (tangent_unit c ps units u xs)
-  own_written u there s h xs stand =
+  -- the calls of each unit whose tangent is emitted hand on what carries a tangent
+  pub takes_any : (u : Procedure) → Found ps u → UnitSound ps u → has_tangent c ps top.name u.name ≡ true → Takes Any (plan_in c ps u.name) u.body
+  takes_any u there s h =
       let flows = unit_flows rules k checked f on is top at u.name u there.0 h in
-      unit_written c ps units u s.written s.kernel s.free s.calls (takes_list c ps (all_named rules ps checked) f u.name (apart rules k checked f on is top at) u (entry_point ps u.name) (first_statement ps u.name) u.body flows.flows s.calls)
-      xs (tangent_named (source_names ps) ps u.name (all_named rules ps checked) s.there).0 stand
+      takes_list c ps (all_named rules ps checked) f u.name (apart rules k checked f on is top at) u (entry_point ps u.name) (first_statement ps u.name) u.body flows.flows s.calls
+
+  own_written : (u : Procedure) → Found ps u → UnitSound ps u → has_tangent c ps top.name u.name ≡ true → (xs : List (List ℕ)) → Each (λ x. (has_name x (variables u) ≡ true) × (c u.name (plain x) ≡ true)) xs → IsWrittenProcedure (tangent_unit c ps units u xs)
+  own_written u there s h xs stand = unit_written c ps units u s.written s.kernel s.free s.calls (takes_any u there s h) xs (tangent_named (source_names ps) ps u.name (all_named rules ps checked) s.there).0 stand
 
   units_written : (us : List Procedure) → Each (Found ps) us → Each (UnitSound ps) us → IsWritten (emitted_units c ps top k.vars us)
   units_written [] e s = All-nil IsWrittenProcedure
   units_written (u ∷ us) e s = keep (stays c ps top.name u.name) (make (has_tangent c ps top.name u.name) refl (units_written us e.1 s.1))
     where
       first : List (List ℕ)
-      first = if name_eq top.name u.name then names_in (c u.name) (unmarked u.dummies k.vars) else []
-
-      stand : Each (λ x. (has_name x (variables u) ≡ true) × (c u.name (plain x) ≡ true)) (if name_eq top.name u.name then names_in (c u.name) (unmarked u.dummies k.vars) else [])
-      stand = go (name_eq top.name u.name)
-        where
-          go : (b : Bool) → Each (λ x. (has_name x (variables u) ≡ true) × (c u.name (plain x) ≡ true)) (if b then names_in (c u.name) (unmarked u.dummies k.vars) else [])
-          go true = each_marked (λ x. has_name x (variables u) ≡ true) (c u.name) (unmarked u.dummies k.vars) (each_name (λ x. has_name x (variables u) ≡ true) (unmarked u.dummies k.vars) (λ x h. dummy_among u x (unmarked_in x u.dummies k.vars h)))
-          go false = tt
+      first = at_first c ps top k.vars u
 
       make : (b : Bool) → has_tangent c ps top.name u.name ≡ b → IsWritten (emitted_units c ps top k.vars us) → IsWritten ((if b then tangent_unit c ps units u first ∷ [] else []) ++ emitted_units c ps top k.vars us)
-      make true h ih = All-cons IsWrittenProcedure (tangent_unit c ps units u first) (emitted_units c ps top k.vars us) (own_written u e.0 s.0 h first stand) ih
+      make true h ih = All-cons IsWrittenProcedure (tangent_unit c ps units u first) (emitted_units c ps top k.vars us) (own_written u e.0 s.0 h first (at_first_stand c ps top k.vars u)) ih
       make false h ih = ih
 
       keep : (b : Bool) → IsWritten ((if has_tangent c ps top.name u.name then tangent_unit c ps units u first ∷ [] else []) ++ emitted_units c ps top k.vars us) → IsWritten ((if b then u ∷ [] else []) ++ ((if has_tangent c ps top.name u.name then tangent_unit c ps units u first ∷ [] else []) ++ emitted_units c ps top k.vars us))
       keep true ih = let sound = s.0 in All-cons IsWrittenProcedure u _ sound.written ih
       keep false ih = ih
 
--- there is one unit of a number, or none
-one_or_none : (n : ℕ) (us : List Procedure) → (unit_at n us ≡ []) ⊎ ((u : Procedure) × (unit_at n us ≡ u ∷ []))
-one_or_none zero [] = inl refl
-one_or_none (suc n) [] = inl refl
-one_or_none zero (u ∷ us) = inr (u, refl)
-one_or_none (suc n) (u ∷ us) = one_or_none n us
-
 -- the law
 pub tangent_is_written : TangentIsWritten
-tangent_is_written rules k checked f on is = go (one_or_none k.head k.units)
-  where
-    c : Carried
-    c = carried_by k.units on
-
-    go : (unit_at k.head k.units ≡ []) ⊎ ((u : Procedure) × (unit_at k.head k.units ≡ u ∷ [])) → IsWritten (emitted_for (carried_by k.units on) k.units k.vars (unit_at k.head k.units))
-    go (inl e) = subst (λ us. IsWritten (emitted_for (carried_by k.units on) k.units k.vars us)) (sym e) (All-nil IsWrittenProcedure)
-    go (inr (u, e)) = subst (λ us. IsWritten (emitted_for (carried_by k.units on) k.units k.vars us)) (sym e) (units_written rules k checked f on is u e k.units (found rules k.units checked) (all_sound rules k.units checked))
+tangent_is_written rules k checked f on is =
+    for_head IsWritten (carried_by k.units on) k.units k.head k.vars (All-nil IsWrittenProcedure)
+    (λ u at. units_written rules k checked f on is u at k.units (found rules k.units checked) (all_sound rules k.units checked))

@@ -8,7 +8,7 @@ use Rattle.def_flow.specs.Rules.{Scope, head_parts, part_steps, flow_steps, vari
 use Rattle.def_flow.specs.Closure.{closure, is_closed}
 use Rattle.def_flow.specs.Scopes.{same_number, scope_of}
 use Rattle.law_flow.specs.Computed.{same_node, by_point}
-use Rattle.law_tangent_carried.specs.Carried.{IsCarrying}
+use Rattle.def_flow.specs.Carried.{IsCarrying}
 
 -- The set is that of shadows where all is useful and no dummy is varied at an entry: shadows begin with what is varied and useful, and are lent by
 -- a dummy to its actual, and by an actual to a dummy that is varied at its entry.

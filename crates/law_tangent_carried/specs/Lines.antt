@@ -2,23 +2,24 @@
 use Rattle.std.specs.Prelude.{◌≡◌, ◌≤◌, ◌*◌, ℕ, ℤ, List, [], length, Bool, true, Some, None}
 use Rattle.adj_tree.specs.Code.{Procedure}
 use Rattle.adj_tree.specs.Lines.{unlined}
+use Rattle.def_meaning.specs.Written.{find_unit}
 use Rattle.def_meaning.specs.Trap.{Trap}
 use Rattle.def_meaning.specs.Numbers.{words, duals}
 use Rattle.def_meaning.specs.Scene.{Stand, Done, Trapped}
-use Rattle.def_meaning.specs.Written.{find_unit}
 use Rattle.def_meaning.specs.Units.{Slot, Output, fits, run_unit}
-use Rattle.def_names.specs.HeadFaults.{unit_number}
-use Rattle.def_names.specs.Numbers.{Vars}
 use Rattle.def_sweep.specs.Tangents.{AreAlike, IsDirection, with_direction}
 use Rattle.def_sweep.specs.MarkedAdjoint.{shadow_flags, joined_by}
+use Rattle.def_names.specs.HeadFaults.{unit_number}
+use Rattle.def_names.specs.Numbers.{Vars}
 use Rattle.def_kernel.specs.Kernel.{EachUnit}
 use Rattle.def_kernel.specs.Stepped.{kernel_of}
+use Rattle.def_planned.specs.Planned.{kernel_problem}
+use Rattle.def_tangent.specs.Program.{Carried, tangent_name, tangent_program}
+use Rattle.def_tangent.specs.IsTangent.{AreAllWords, AreHandedIn, TangentTraps}
+use Rattle.def_flow.specs.Carried.{IsCarrying, carried_by}
+use Rattle.law_tangent_carried.specs.Source.{SourceDone, IsTangentFor}
 use Rattle.law_kernel.specs.Sound.{IsAccepted}
 use Rattle.law_tangent.specs.Sizes.{AreLight}
-use Rattle.law_tangent.specs.Program.{Carried, tangent_name, tangent_program}
-use Rattle.law_tangent.specs.IsTangent.{AreAllWords, AreHandedIn, TangentTraps}
-use Rattle.law_tangent_carried.specs.Carried.{IsCarrying, carried_by}
-use Rattle.law_tangent_carried.specs.Source.{SourceDone, IsTangentFor, kernel_problem}
 
 -- the same as IsTangentFor, where a trap may be at any line
 pub record IsTangentRead (w : ℕ) (on : Carried) (ps : List Procedure) (name : List ℕ) (vars : List Bool) (qs : List Procedure) : Type 0 where

@@ -1,23 +1,24 @@
--- What it means that a program is the tangent of one that isn't in kernel form, and that what is emitted for the kernel is it.
-use Rattle.std.specs.Prelude.{◌≡◌, ◌≤◌, ◌*◌, ℕ, ℤ, List, [], length, Bool, true, false, Some, None}
+-- What it means that a program is the tangent of one that isn't in kernel form, with a bound, and that what is emitted for the kernel, by exact analyses, is it.
+use Rattle.std.specs.Prelude.{◌≡◌, ◌≤◌, ◌*◌, ℕ, ℤ, List, [], length, Bool, true, Some, None}
 use Rattle.adj_tree.specs.Code.{Procedure}
+use Rattle.def_meaning.specs.Written.{find_unit}
 use Rattle.def_meaning.specs.Trap.{Trap}
 use Rattle.def_meaning.specs.Numbers.{words, duals}
 use Rattle.def_meaning.specs.Scene.{Stand, Done, Trapped}
-use Rattle.def_meaning.specs.Written.{find_unit}
 use Rattle.def_meaning.specs.Units.{Slot, Output, fits, run_unit}
-use Rattle.def_names.specs.HeadFaults.{unit_number}
-use Rattle.def_names.specs.Numbers.{Vars}
 use Rattle.def_sweep.specs.Tangents.{AreAlike, IsDirection, with_direction}
 use Rattle.def_sweep.specs.MarkedAdjoint.{shadow_flags, joined_by}
+use Rattle.def_names.specs.HeadFaults.{unit_number}
+use Rattle.def_names.specs.Numbers.{Vars}
 use Rattle.def_kernel.specs.Kernel.{EachUnit}
 use Rattle.def_kernel.specs.Stepped.{kernel_of}
+use Rattle.def_planned.specs.Planned.{kernel_problem}
+use Rattle.def_tangent.specs.Program.{Carried, tangent_name, tangent_program}
+use Rattle.def_tangent.specs.IsTangent.{AreAllWords, AreHandedIn, TangentTraps}
+use Rattle.law_tangent.specs.IsTangent.{TangentDone, IsTangent}
+use Rattle.def_flow.specs.Carried.{IsCarrying, carried_by}
 use Rattle.law_kernel.specs.Sound.{IsAccepted}
-use Rattle.def_flow.specs.Problem.{Problem}
 use Rattle.law_tangent.specs.Sizes.{AreLight}
-use Rattle.law_tangent.specs.Program.{Carried, tangent_name, tangent_program}
-use Rattle.law_tangent.specs.IsTangent.{AreAllWords, AreHandedIn, TangentDone, TangentTraps, IsTangent}
-use Rattle.law_tangent_carried.specs.Carried.{IsCarrying, carried_by}
 
 -- where the source's dual run gives this, the run of the tangent gives its values and tangents; the statements are counted by those of the
 -- kernel's dual run, which with enough of them is done, too
@@ -48,10 +49,6 @@ abbrev pub KernelsTangent : Type 0
 KernelsTangent =
     (w : ℕ) (on : Carried) (ps : List Procedure) → IsAccepted ps → (name : List ℕ) (u : Procedure) → find_unit ps name ≡ Some u → (vars : List Bool) (qs : List Procedure) →
     IsTangent w on (kernel_of ps) (unit_number (kernel_of ps) name) vars qs → IsTangentFor w on ps name vars qs
-
--- the problem of the kernel of a program, for the unit of a name as the head
-abbrev pub kernel_problem : List Procedure → List ℕ → List Bool → List Bool → Problem
-kernel_problem ps name vars outvars = record { units = kernel_of ps; head = unit_number (kernel_of ps) name; vars = vars; outvars = outvars; split = λ n. false }
 
 -- so what is emitted for the kernel, by exact analyses, is a tangent of the program
 abbrev pub AcceptedIsTangent : Type 0

@@ -5,11 +5,12 @@ use Rattle.def_names.specs.Numbers.{Vars}
 use Rattle.def_flow.specs.Problem.{Problem}
 use Rattle.law_flow.specs.Computed.{by_point}
 use Rattle.law_tangent.specs.Examples.{caller, scales, counts, caller_tangent, scales_tangent}
-use Rattle.law_tangent.specs.Program.{Carried, tangent_program}
+use Rattle.def_tangent.specs.Program.{Carried, tangent_program}
 use Rattle.law_tangent.specs.IsTangent.{IsTangent}
-use Rattle.law_tangent_carried.specs.Carried.{IsCarrying, carried_by}
+use Rattle.def_flow.specs.Carried.{IsCarrying, carried_by}
 use Rattle.law_tangent_carried.specs.Computed.{carrying}
-use Rattle.law_tangent_carried.specs.Source.{IsTangentFor, kernel_problem}
+use Rattle.law_tangent_carried.specs.Source.{IsTangentFor}
+use Rattle.def_planned.specs.Planned.{kernel_problem}
 
 -- Q(A,B,K) calls S(A,K), which scales A, and T(K), which counts, and sets B to A; A is independent, and B dependent
 abbrev pub caller_problem : Problem

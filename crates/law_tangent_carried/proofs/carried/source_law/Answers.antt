@@ -1,6 +1,6 @@
 use Rattle.law_tangent_carried.proofs.Through.{kernels_tangent, accepted_is_tangent}
 use Rattle.law_tangent_carried.proofs.Lines.{other_lines, accepted_reads}
-use Rattle.law_tangent_carried.proofs.source_law.Goals as goal
+use Rattle.law_tangent_carried.proofs.carried.source_law.Goals as goal
 
 pub returns-clause-kernels : goal.returns-clause-kernels
 returns-clause-kernels c = kernels_tangent

@@ -2,7 +2,7 @@ use Rattle.std.proofs.Common.{refl}
 use Rattle.law_tangent_carried.proofs.Nesting.{keeps_nesting}
 use Rattle.law_tangent_carried.proofs.Depths.{keeps_depth}
 use Rattle.law_tangent_carried.proofs.Written.{tangent_is_written}
-use Rattle.law_tangent_carried.proofs.text_law.Goals as goal
+use Rattle.law_tangent_carried.proofs.text.text_law.Goals as goal
 
 pub returns-clause-written : goal.returns-clause-written
 returns-clause-written c = tangent_is_written

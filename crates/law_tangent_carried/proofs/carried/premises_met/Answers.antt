@@ -1,6 +1,6 @@
 use Rattle.law_tangent_carried.proofs.Worked.{caller_is_tangent, loop_is_tangent}
 use Rattle.law_tangent_carried.proofs.Computing.{carrying_found}
-use Rattle.law_tangent_carried.proofs.premises_met.Goals as goal
+use Rattle.law_tangent_carried.proofs.carried.premises_met.Goals as goal
 
 pub returns-clause-computed : goal.returns-clause-computed
 returns-clause-computed c = carrying_found
