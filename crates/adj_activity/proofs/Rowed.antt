@@ -1,31 +1,23 @@
 -- The edges of the rows of units that take part are those of the definitions.
-use Rattle.std.proofs.Common.{◌≡◌, ℕ, suc, ◌+◌, ◌-◌, ◌*◌, ◌≤◌, List, [], ◌∷◌, ◌++◌, Bool, true, false, map, refl, sym, ap, ◌∙◌, arith, append-nil}
-use Rattle.std.specs.Prelude.{Contains, Option, Some, None, filter, flat_map, slice_get, if◌then◌else◌, slice_index_or}
+use Rattle.std.proofs.Common.{◌≡◌, ℕ, ◌+◌, ◌*◌, List, [], ◌∷◌, ◌++◌, Bool, map, refl, sym, ap, ◌∙◌, append-nil}
+use Rattle.std.specs.Prelude.{Contains, Option, Some, None, flat_map, slice_index_or}
 use Rattle.std.specs.Borrow.{Bor}
 use Rattle.std.specs.Option.{option_map}
-use Rattle.std.proofs.lemmas.List.{map-append}
 use Rattle.std.proofs.lemmas.List.Concat.{flat_map-cons}
-use Rattle.std.proofs.lemmas.List.Folds.{flat_map-map}
-use Rattle.adj_tree.specs.Code.{Var, plain, name_eq, Terms, Act, assign, choose, loop, during, call, runtime, Procedure}
-use Rattle.adj_tree.proofs.Names.{name_same, name_refl}
-use Rattle.def_names.specs.Numbers.{behind}
+use Rattle.adj_tree.specs.Code.{Var, plain, Terms, Act, assign, choose, loop, during, call, runtime}
 use Rattle.adj_reach.specs.Reached.{leads}
-use Rattle.def_flow.specs.Parts.{Part, part, parts_from, parts, find_part}
-use Rattle.def_names.specs.StatementsIn.{statements_in}
+use Rattle.def_flow.specs.Parts.{Part, parts, find_part}
 use Rattle.def_flow.specs.Standing.{Standing}
 use Rattle.def_names.specs.VariableLists.{list_if}
 use Rattle.def_flow.specs.Problem.{Problem, statements_of, ways_of, TakesPart, bound}
-use Rattle.def_flow.specs.Activity.{Adjoint, statement, unit, IsPoint}
+use Rattle.def_flow.specs.Activity.{Adjoint, statement, unit}
 use Rattle.def_flow.specs.Rules.{Scope, Covers, with_args, called, at_actuals, holders, adjoint_steps_at}
-use Rattle.adj_reach.proofs.Members.{is_first, is_later}
 use Rattle.def_flow.proofs.OwnPoints.{entry_point}
-use Rattle.def_flow.proofs.Sets.{same_truth}
-use Rattle.adj_flow.specs.Rows.{Row, row_at, row_in, rows}
+use Rattle.adj_flow.specs.Rows.{Row, row_in, rows}
 use Rattle.adj_reach.specs.Edges.{Edges, flag}
 use Rattle.adj_flow.specs.Nodes.{node_in, linked}
 use Rattle.adj_activity.specs.Edges.{way_edges, assigned_edges, called_edges, statement_edges, unit_edges, flow_edges, lent_edges, unit_shadows, shadow_edges, adjoint_number, adjoint_edges}
-use Rattle.adj_flow.specs.Told.{flag_at, told_in, told}
-use Rattle.adj_flow.specs.NodeView.{told_at, found_at}
+use Rattle.adj_flow.specs.Told.{told}
 use Rattle.adj_activity.specs.View.{pair_edges, found_edges, call_edges, maker_edge, maker_edges, made_edges, standing_edges, row_edges}
 use Rattle.adj_flow.specs.Scoped.{scope_by}
 use Rattle.adj_activity.specs.declared.steps.Steps.{Steps}

@@ -1,7 +1,9 @@
 -- Where the code begins is where the definitions begin.
-use Rattle.std.proofs.Common.{◌≡◌, inl, inr, ℕ, List, [], ◌∷◌, ◌++◌, Bool, map, refl, sym, ap, ◌∙◌, append-nil}
-use Rattle.std.specs.Prelude.{Contains, Some, flat_map, slice_get, slice_index_or, not, ◌&&◌, ◌||◌}
+use Rattle.std.proofs.Common.{◌≡◌, inl, inr, ℕ, List, [], ◌∷◌, ◌++◌, Bool, true, map, refl, sym, ap, ◌∙◌, append-nil}
+use Rattle.std.specs.Prelude.{Contains, Option, Some, None, flat_map, slice_get, slice_index_or, not, ◌&&◌, ◌||◌}
+use Rattle.std.specs.Borrow.{Bor}
 use Rattle.adj_tree.specs.Code.{Var, plain, Act, assign, choose, loop, during, call, runtime}
+use Rattle.def_names.specs.Numbers.{Vars, everything}
 use Rattle.def_names.specs.Numbering.{point_before, point_after}
 use Rattle.def_sweep.specs.Facts.{whole}
 use Rattle.def_flow.specs.Parts.{Part, parts}
@@ -21,7 +23,7 @@ use Rattle.adj_flow.specs.Told.{told_in, told, told_of}
 use Rattle.adj_flow.specs.ActivityTold.{activity_told}
 use Rattle.adj_flow.specs.NodeView.{told_at}
 use Rattle.adj_flow.specs.Scoped.{scope_by}
-use Rattle.adj_activity.specs.Starts.{point_nodes, active_nodes, all_active, row_activity, outright_at, outright_in, all_outright}
+use Rattle.adj_activity.specs.Starts.{point_nodes, is_useful_in, active_nodes, all_active, row_activity, outright_at, outright_in, all_outright}
 use Rattle.adj_activity.specs.declared.found.Found.{Found}
 use Rattle.adj_flow.proofs.Scoping.{flat_same, map_flat, scoped, told_there}
 use Rattle.adj_flow.proofs.Telling.{number_found}
@@ -33,6 +35,11 @@ somewhere_same f g (w ∷ ws) h =
     let a = h w (is_first w w ws refl) in
     let later : somewhere ws f ≡ somewhere ws g = somewhere_same f g ws (λ z c. h z (is_later z w ws c)) in
     λ i. a.0 i || (a.1 i || later i)
+
+-- what is so everywhere is so where something is
+everywhere : (f : ℕ → Bool) (ws : List Way) → (somewhere ws f && true) ≡ (somewhere ws f && somewhere ws (λ p. true))
+everywhere f [] = refl
+everywhere f (w ∷ ws) = refl
 
 module _ (k : Problem) (vss : List (List (List ℕ))) (flags : List Bool) (w : ℕ) (y : Covers k (scope_by vss (flag flags) k.units)) where
   abbrev o : Scope
@@ -55,24 +62,34 @@ module _ (k : Problem) (vss : List (List (List ℕ))) (flags : List Bool) (w : �
 
     -- ---- shadows
 
-    active_same : (varied useful : List Bool) (q : Part) → TakesPart k q → active_nodes varied useful w (row_in vss q) ≡ active_shadows o w (told varied o w) (told useful o w) q
+    -- what is useful, by flags; without flags everything is
+    abbrev pub useful_by : Option (Bor (List Bool)) → ℕ → Vars
+    useful_by None = λ p. everything
+    useful_by (Some useful) = told useful.now o w
+
+    active_same : (varied : List Bool) (useful : Option (Bor (List Bool))) (q : Part) → TakesPart k q → active_nodes varied useful w (row_in vss q) ≡ active_shadows o w (told varied o w) (useful_by useful) q
     active_same varied useful q t =
-        flat_same (λ v. list_if (somewhere (ways_of q) (λ p. told_at varied w (row_in vss q) p v) && somewhere (ways_of q) (λ p. told_at useful w (row_in vss q) p v)) (list_of (node_in w (o.variables q) (q.number, v))))
-        (λ v. list_if (somewhere (ways_of q) (λ p. told varied o w p v) && somewhere (ways_of q) (λ p. told useful o w p v)) (list_of (node_in w (o.variables q) (q.number, v)))) (o.variables q)
+        flat_same (λ v. list_if (somewhere (ways_of q) (λ p. told_at varied w (row_in vss q) p v) && is_useful_in useful w (row_in vss q) v) (list_of (node_in w (o.variables q) (q.number, v))))
+        (λ v. list_if (somewhere (ways_of q) (λ p. told varied o w p v) && somewhere (ways_of q) (λ p. useful_by useful p v)) (list_of (node_in w (o.variables q) (q.number, v)))) (o.variables q)
         (λ v c.
         let a : somewhere (ways_of q) (λ p. told_at varied w (row_in vss q) p v) ≡ somewhere (ways_of q) (λ p. told varied o w p v) = on varied v in
-        let b : somewhere (ways_of q) (λ p. told_at useful w (row_in vss q) p v) ≡ somewhere (ways_of q) (λ p. told useful o w p v) = on useful v in
-        λ i. list_if (a i && b i) (list_of (node_in w (o.variables q) (q.number, v))))
+        (λ i. list_if (a i && is_useful_in useful w (row_in vss q) v) (list_of (node_in w (o.variables q) (q.number, v)))) ∙ ap (λ b. list_if b (list_of (node_in w (o.variables q) (q.number, v)))) (used useful v))
       where
         on : (by : List Bool) (v : Var) → somewhere (ways_of q) (λ p. told_at by w (row_in vss q) p v) ≡ somewhere (ways_of q) (λ p. told by o w p v)
         on by v =
             somewhere_same (λ p. told_at by w (row_in vss q) p v) (λ p. told by o w p v) (ways_of q)
             (λ r c. (told_there k o y by w (slice_index_or vss q.number []) q r.from t (r, c, inl refl) refl v, told_there k o y by w (slice_index_or vss q.number []) q r.to t (r, c, inr refl) refl v))
 
-    pub shadows_same : (varied useful : List Bool) → (point_nodes w (row_in vss g) g.number k.vars ++ point_nodes w (row_in vss g) g.number k.outvars) ++ all_active varied useful (rows vss k.units) flags w ≡ shadow_nodes k o w (told varied o w) (told useful o w)
+        used : (by : Option (Bor (List Bool))) (v : Var) →
+            (somewhere (ways_of q) (λ p. told varied o w p v) && is_useful_in by w (row_in vss q) v) ≡ (somewhere (ways_of q) (λ p. told varied o w p v) && somewhere (ways_of q) (λ p. useful_by by p v))
+        used None v = everywhere (λ p. told varied o w p v) (ways_of q)
+        used (Some by) v = ap (λ b. somewhere (ways_of q) (λ p. told varied o w p v) && b) (on by.now v)
+
+    pub shadows_same : (varied : List Bool) (useful : Option (Bor (List Bool))) →
+        (point_nodes w (row_in vss g) g.number k.vars ++ point_nodes w (row_in vss g) g.number k.outvars) ++ all_active varied useful (rows vss k.units) flags w ≡ shadow_nodes k o w (told varied o w) (useful_by useful)
     shadows_same varied useful =
-        let a : all_active varied useful (rows vss k.units) flags w ≡ flat_map (active_shadows o w (told varied o w) (told useful o w)) o.parts =
-        scoped k vss flags (active_nodes varied useful w) (active_shadows o w (told varied o w) (told useful o w)) (λ q c. active_same varied useful q ((y.parts q).0 c)) in
+        let a : all_active varied useful (rows vss k.units) flags w ≡ flat_map (active_shadows o w (told varied o w) (useful_by useful)) o.parts =
+        scoped k vss flags (active_nodes varied useful w) (active_shadows o w (told varied o w) (useful_by useful)) (λ q c. active_same varied useful q ((y.parts q).0 c)) in
         λ i. head_same i ++ a i
 
   -- ---- adjoints

@@ -1,5 +1,5 @@
 -- The steps of flow between numbers.
-use Rattle.std.specs.Prelude.{ℕ, ◌+◌, ◌*◌, List, [], ◌∷◌, ◌++◌, map, flat_map, not, ◌&&◌}
+use Rattle.std.specs.Prelude.{ℕ, ◌+◌, ◌*◌, List, [], ◌++◌, map, flat_map, not, ◌&&◌}
 use Rattle.adj_tree.specs.Code.{Var, plain, Act, assign, choose, loop, during, call, runtime}
 use Rattle.def_names.specs.Numbers.{Vars}
 use Rattle.def_names.specs.Numbering.{point_before, point_after}

@@ -2,4 +2,5 @@
 pub mod Edges
 pub mod View
 pub mod Starts
+pub mod Carried
 pub mod Laws

@@ -1,7 +1,9 @@
 -- Where the steps of each rule begin, as the code goes over the units.
-use Rattle.std.specs.Prelude.{ℕ, List, map, flat_map, Bool, true, false, ◌&&◌}
+use Rattle.std.specs.Prelude.{ℕ, List, map, flat_map, Bool, true, false, ◌&&◌, Option, Some, None}
+use Rattle.std.specs.Borrow.{Bor}
 use Rattle.adj_tree.specs.Code.{plain, Terms, none, more}
 use Rattle.def_flow.specs.Standing.{Standing}
+use Rattle.def_names.specs.Numbers.{Vars}
 use Rattle.def_names.specs.VariableLists.{list_if}
 use Rattle.def_flow.specs.Problem.{flagged}
 use Rattle.def_flow.specs.Activity.{Activity}
@@ -17,13 +19,18 @@ use Rattle.adj_activity.specs.declared.found.Found.{Found}
 abbrev pub point_nodes : ℕ → Row → ℕ → List Bool → List ℕ
 point_nodes w r p flags = flat_map (λ d. list_of (node_in w (vars_of r) (p, plain d))) (flagged flags r.part.unit.dummies)
 
+-- whether a variable is useful somewhere in a unit, by flags; without flags it is
+abbrev pub is_useful_in : Option (Bor (List Bool)) → ℕ → Row → Vars
+is_useful_in None w r v = true
+is_useful_in (Some useful) w r v = somewhere r.ways (λ p. told_at useful.now w r p v)
+
 -- the variables of a unit that are varied and useful somewhere in it
-abbrev pub active_nodes : List Bool → List Bool → ℕ → Row → List ℕ
+abbrev pub active_nodes : List Bool → Option (Bor (List Bool)) → ℕ → Row → List ℕ
 active_nodes varied useful w r =
-    flat_map (λ v. list_if (somewhere r.ways (λ p. told_at varied w r p v) && somewhere r.ways (λ p. told_at useful w r p v)) (list_of (node_in w (vars_of r) (r.part.number, v)))) (vars_of r)
+    flat_map (λ v. list_if (somewhere r.ways (λ p. told_at varied w r p v) && is_useful_in useful w r v) (list_of (node_in w (vars_of r) (r.part.number, v)))) (vars_of r)
 
 -- those of all units that take part
-abbrev pub all_active : List Bool → List Bool → List Row → List Bool → ℕ → List ℕ
+abbrev pub all_active : List Bool → Option (Bor (List Bool)) → List Row → List Bool → ℕ → List ℕ
 all_active varied useful rs taking w = flat_map (λ r. list_if (flag taking r.part.number) (active_nodes varied useful w r)) rs
 
 -- the activity of a unit, as far as it is found

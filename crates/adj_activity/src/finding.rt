@@ -1,4 +1,4 @@
-//! The activity of a program.
+//! The activity of a program, and which of its variables carry a tangent.
 
 ghost use Rattle.std.specs.Prelude.{◌≡◌, ◌↔◌, ◌++◌, ℕ, IfOk, IsTrue, map};
 ghost use Rattle.def_flow.specs.Activity.{IsActivity};
@@ -6,6 +6,7 @@ ghost use Rattle.adj_flow.specs.Rows.{row_of};
 ghost use Rattle.adj_reach.specs.Edges.{ReachedFrom, ReachedBack, flag};
 ghost use Rattle.adj_activity.specs.View.{flow_listed, shadows_listed, adjoints_listed};
 ghost use Rattle.adj_activity.specs.Starts.{point_nodes, all_active, all_outright};
+ghost use Rattle.adj_activity.specs.Carried.{AreCarried};
 ghost use Rattle.adj_flow.specs.Asked.{IsFlow, problem_of};
 ghost use Rattle.adj_flow.specs.Marked.{activity_of};
 
@@ -34,6 +35,20 @@ fn point_nodes(
     Ok(nodes)
 }
 
+// The varied variables, by the edges of flow.
+fn varied(
+    alloc: Global,
+    flow: &Flow<'_>,
+    part: &Part<'_>,
+    head: &Head,
+    edges: &[(usize, usize)],
+) -> Result<Flags, Memory>
+    ensures varied { IfOk result (λ f. (m : ℕ) → IsTrue (flag f m) ↔ ReachedFrom edges.now (point_nodes flow.now.width (row_of part.now) (row_of part.now).part.entry head.now.vars) m) }
+{
+    let entry = point_nodes(alloc, flow.width, part, part.entry, head.vars.as_slice())?;
+    reached(alloc, edges, entry.as_slice())
+}
+
 // The varied and the useful variables.
 fn flowing(
     alloc: Global,
@@ -45,14 +60,13 @@ fn flowing(
     ensures useful { IfOk result (λ f. (m : ℕ) → IsTrue (flag f.1 m) ↔ ReachedBack (flow_listed (map row_of flow.now.parts.items) flow.now.numbers flow.now.taking flow.now.width) (point_nodes flow.now.width (row_of part.now) (row_of part.now).part.end head.now.outvars) m) }
 {
     let edges = edges(alloc, flow, Steps::Flow)?;
-    let entry = point_nodes(alloc, flow.width, part, part.entry, head.vars.as_slice())?;
-    let varied = reached(alloc, edges.as_slice(), entry.as_slice())?;
+    let varied = varied(alloc, flow, part, head, edges.as_slice())?;
     let end = point_nodes(alloc, flow.width, part, part.end, head.outvars.as_slice())?;
     let useful = reached_back(alloc, edges.as_slice(), end.as_slice())?;
     Ok((varied, useful))
 }
 
-// The variables that have a shadow outright.
+// The variables that have a shadow or a tangent outright.
 fn shadow_nodes(
     alloc: Global,
     flow: &Flow<'_>,
@@ -60,7 +74,7 @@ fn shadow_nodes(
     head: &Head,
     sets: Sets<'_>,
 ) -> Result<Vec<usize>, Memory>
-    ensures nodes { IfOk result (λ v. v.items ≡ (point_nodes flow.now.width (row_of part.now) (row_of part.now).part.number head.now.vars ++ point_nodes flow.now.width (row_of part.now) (row_of part.now).part.number head.now.outvars) ++ all_active sets.entry.varied.now sets.entry.useful.now (map row_of flow.now.parts.items) flow.now.taking flow.now.width) }
+    ensures nodes { IfOk result (λ v. v.items ≡ (point_nodes flow.now.width (row_of part.now) (row_of part.now).part.number head.now.vars ++ point_nodes flow.now.width (row_of part.now) (row_of part.now).part.number head.now.outvars) ++ all_active sets.entry.varied.now sets.entry.useful (map row_of flow.now.parts.items) flow.now.taking flow.now.width) }
 {
     let mut nodes = point_nodes(alloc, flow.width, part, part.number, head.vars.as_slice())?;
     add_flagged(
@@ -74,7 +88,7 @@ fn shadow_nodes(
     Ok(nodes)
 }
 
-// The variables that have a shadow.
+// The variables that have a shadow or a tangent: those that have one outright, and those that are lent one.
 fn shadowed(
     alloc: Global,
     flow: &Flow<'_>,
@@ -82,7 +96,7 @@ fn shadowed(
     head: &Head,
     sets: Sets<'_>,
 ) -> Result<Flags, Memory>
-    ensures shadowed { IfOk result (λ f. (m : ℕ) → IsTrue (flag f m) ↔ ReachedFrom (shadows_listed sets.entry.varied (map row_of flow.now.parts.items) flow.now.numbers flow.now.taking flow.now.width) ((point_nodes flow.now.width (row_of part.now) (row_of part.now).part.number head.now.vars ++ point_nodes flow.now.width (row_of part.now) (row_of part.now).part.number head.now.outvars) ++ all_active sets.entry.varied.now sets.entry.useful.now (map row_of flow.now.parts.items) flow.now.taking flow.now.width) m) }
+    ensures shadowed { IfOk result (λ f. (m : ℕ) → IsTrue (flag f m) ↔ ReachedFrom (shadows_listed sets.entry.varied (map row_of flow.now.parts.items) flow.now.numbers flow.now.taking flow.now.width) ((point_nodes flow.now.width (row_of part.now) (row_of part.now).part.number head.now.vars ++ point_nodes flow.now.width (row_of part.now) (row_of part.now).part.number head.now.outvars) ++ all_active sets.entry.varied.now sets.entry.useful (map row_of flow.now.parts.items) flow.now.taking flow.now.width) m) }
 {
     let edges = edges(alloc, flow, Steps::Shadows(sets.varied))?;
     let nodes = shadow_nodes(alloc, flow, part, head, sets)?;
@@ -106,14 +120,15 @@ pub fn activity(alloc: Global, flow: &Flow<'_>, head: &Head) -> Result<Activity,
 {
     let part = &flow.parts.as_slice()[head.unit];
     let (varied, useful) = flowing(alloc, flow, part, head)?;
+    let useful_at = useful.as_slice();
     let sets = Sets {
         varied: varied.as_slice(),
-        useful: useful.as_slice(),
+        useful: Some(useful_at),
     };
     let shadowed = shadowed(alloc, flow, part, head, sets)?;
     let found = Found {
         varied: sets.varied,
-        useful: sets.useful,
+        useful: useful_at,
         shadowed: shadowed.as_slice(),
     };
     let adjointed = adjointed(alloc, flow, found)?;
@@ -123,4 +138,23 @@ pub fn activity(alloc: Global, flow: &Flow<'_>, head: &Head) -> Result<Activity,
         adjointed,
         shadowed,
     })
+}
+
+/// Which variables of units carry a tangent, in the program of which this is the flow, for a head: its independents and dependents, what is
+/// varied at a point of its unit, and the actual of each dummy that carries one. The variable at place `j` of the unit of the number `u` has
+/// the number `u * width + j`.
+pub fn carried(alloc: Global, flow: &Flow<'_>, head: &Head) -> Result<Flags, Memory>
+    requires flow { IsFlow flow.now head.now.unit }
+    ensures carried { IfOk result (λ f. AreCarried flow.now head.now f) }
+{
+    let part = &flow.parts.as_slice()[head.unit];
+    let edges = edges(alloc, flow, Steps::Flow)?;
+    let varied = varied(alloc, flow, part, head, edges.as_slice())?;
+    // An actual lends only to a dummy that is varied at its unit's entry, and such a dummy carries one by itself.
+    let sets = Sets {
+        varied: varied.as_slice(),
+        useful: None,
+    };
+    let carried = shadowed(alloc, flow, part, head, sets)?;
+    Ok(carried)
 }

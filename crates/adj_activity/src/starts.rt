@@ -1,4 +1,4 @@
-//! Where flow begins and ends, and which variables have a shadow outright.
+//! Where flow begins and ends, and which variables have a shadow or a tangent outright.
 
 ghost use Rattle.std.specs.Prelude.{◌≡◌, ◌++◌, ◌&&◌, ◌||◌, IfOk, OnOk, map};
 ghost use Rattle.adj_tree.specs.Code.{plain};
@@ -8,7 +8,7 @@ ghost use Rattle.adj_flow.specs.Rows.{row_of};
 ghost use Rattle.adj_flow.specs.WayView.{way_of};
 ghost use Rattle.adj_reach.specs.Edges.{flag};
 ghost use Rattle.adj_flow.specs.NodeView.{told_at};
-ghost use Rattle.adj_activity.specs.Starts.{point_nodes, active_nodes, all_active};
+ghost use Rattle.adj_activity.specs.Starts.{point_nodes, is_useful_in, active_nodes, all_active};
 
 use crate::found::Sets;
 use adj_flow::{End, Flow, Part, Way, add_node, number, told};
@@ -70,12 +70,27 @@ fn somewhere(flags: &[bool], width: usize, part: &Part<'_>, name: &Name) -> Resu
     Ok(false)
 }
 
+// Whether a variable of a unit is useful at one of its points, by these flags; without flags it is.
+fn is_useful(
+    useful: Option<&[bool]>,
+    width: usize,
+    part: &Part<'_>,
+    name: &Name,
+) -> Result<bool, Memory>
+    ensures useful { IfOk result (λ b. b ≡ is_useful_in useful.entry width (row_of part.now) (plain name.now)) }
+{
+    match useful {
+        Some(flags) => somewhere(flags, width, part, name),
+        None => Ok(true),
+    }
+}
+
 // Whether a variable of a unit is varied at a point of it and useful at one.
 fn is_active(width: usize, part: &Part<'_>, sets: Sets<'_>, name: &Name) -> Result<bool, Memory>
-    ensures active { IfOk result (λ b. b ≡ (somewhere (map way_of part.now.ways.items) (λ p. told_at sets.entry.varied.now width (row_of part.now) p (plain name.now)) && somewhere (map way_of part.now.ways.items) (λ p. told_at sets.entry.useful.now width (row_of part.now) p (plain name.now)))) }
+    ensures active { IfOk result (λ b. b ≡ (somewhere (map way_of part.now.ways.items) (λ p. told_at sets.entry.varied.now width (row_of part.now) p (plain name.now)) && is_useful_in sets.entry.useful width (row_of part.now) (plain name.now))) }
 {
     let is_varied = somewhere(sets.varied, width, part, name)?;
-    let is_useful = somewhere(sets.useful, width, part, name)?;
+    let is_useful = is_useful(sets.useful, width, part, name)?;
     Ok(is_varied && is_useful)
 }
 
@@ -86,7 +101,7 @@ fn add_active(
     part: &Part<'_>,
     sets: Sets<'_>,
 ) -> Result<(), Memory>
-    ensures added { OnOk result (nodes.new.items ≡ nodes.old.items ++ active_nodes sets.entry.varied.now sets.entry.useful.now width (row_of part.now)) }
+    ensures added { OnOk result (nodes.new.items ≡ nodes.old.items ++ active_nodes sets.entry.varied.now sets.entry.useful width (row_of part.now)) }
 {
     for name in part.variables.as_slice() {
         let is_active = is_active(width, part, sets, name)?;
@@ -108,7 +123,7 @@ fn add_taking(
     sets: Sets<'_>,
     takes_part: bool,
 ) -> Result<(), Memory>
-    ensures added { OnOk result (nodes.new.items ≡ nodes.old.items ++ list_if takes_part (active_nodes sets.entry.varied.now sets.entry.useful.now width (row_of part.now))) }
+    ensures added { OnOk result (nodes.new.items ≡ nodes.old.items ++ list_if takes_part (active_nodes sets.entry.varied.now sets.entry.useful width (row_of part.now))) }
 {
     if takes_part {
         add_active(nodes, width, part, sets)?;
@@ -122,7 +137,7 @@ pub(crate) fn add_all_active(
     flow: &Flow<'_>,
     sets: Sets<'_>,
 ) -> Result<(), Memory>
-    ensures added { OnOk result (nodes.new.items ≡ nodes.old.items ++ all_active sets.entry.varied.now sets.entry.useful.now (map row_of flow.now.parts.items) flow.now.taking flow.now.width) }
+    ensures added { OnOk result (nodes.new.items ≡ nodes.old.items ++ all_active sets.entry.varied.now sets.entry.useful (map row_of flow.now.parts.items) flow.now.taking flow.now.width) }
 {
     let taking = flow.taking.as_slice();
     for part in flow.parts.as_slice() {

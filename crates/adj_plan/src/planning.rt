@@ -5,6 +5,7 @@ ghost use Rattle.adj_tree.specs.View.{procedures_of};
 ghost use Rattle.def_meaning.specs.LeastSet.{least_rows};
 ghost use Rattle.def_meaning.specs.Read.{read_rule};
 ghost use Rattle.def_meaning.specs.Written.{write_rule};
+ghost use Rattle.adj_symbols.specs.Checked.{AreFacts};
 ghost use Rattle.adj_symbols.specs.Numbers.{Fits};
 ghost use Rattle.adj_flow.specs.Asked.{IsFlow, problem_of, units_of};
 ghost use Rattle.adj_plan.specs.Asked.{IsPlan};
@@ -23,6 +24,23 @@ use std::alloc::Global;
 pub struct Planned<'c> {
     pub flow: Flow<'c>,
     pub marks: Marks,
+}
+
+/// The flow of a checked program that fits, for the head of a number.
+pub(crate) fn flow_of<'c>(
+    alloc: Global,
+    checked: &'c Checked,
+    head: usize,
+) -> Result<Flow<'c>, Memory>
+    requires fits { Fits checked.now }
+    requires head { head < length checked.now.program.units }
+    ensures facts { AreFacts checked.now }
+    ensures units { IfOk result (λ f. units_of f ≡ procedures_of checked.now.program) }
+    ensures flow { IfOk result (λ f. IsFlow f head) }
+{
+    let units = checked.program().units.as_slice();
+    let variables = variables(alloc, checked)?;
+    flow(alloc, units, variables.as_slice(), head)
 }
 
 // The marks of the program of which this is the flow.
@@ -51,11 +69,9 @@ pub fn plan<'c>(alloc: Global, checked: &'c Checked, head: &Head) -> Result<Plan
     ensures flow { IfOk result (λ p. IsFlow p.flow head.now.unit) }
     ensures plan { IfOk result (λ p. IsPlan p.flow (problem_of p.flow head.now) p.marks) }
 {
-    let variables = variables(alloc, checked)?;
+    let flow = flow_of(alloc, checked, head.unit)?;
     let reads = reads(alloc, checked)?;
     let writes = writes(alloc, checked)?;
-    let units = checked.program().units.as_slice();
-    let flow = flow(alloc, units, variables.as_slice(), head.unit)?;
     let sides = Sides {
         read: reads.as_slice(),
         written: writes.as_slice(),

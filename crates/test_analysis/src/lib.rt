@@ -4,6 +4,8 @@
 #[cfg(test)]
 mod activities;
 #[cfg(test)]
+mod carryings;
+#[cfg(test)]
 mod plans;
 #[cfg(test)]
 mod points;

@@ -140,7 +140,7 @@ fn add_lines(text: &mut Vec<u8>, statements: &[u8]) -> Result<(), Memory> {
 }
 
 // The text of P with these statements, and of another unit.
-fn text_of(alloc: Global, statements: &str, other: &str) -> Result<Vec<u8>, Memory> {
+pub(crate) fn text_of(alloc: Global, statements: &str, other: &str) -> Result<Vec<u8>, Memory> {
     let mut text = Vec::new(alloc);
     add_lines(&mut text, b"SUBROUTINE P(X,N,Y);INTEGER*8 Y,T")?;
     if !statements.starts_with("INTEGER*8") {
@@ -170,7 +170,12 @@ fn add_names(out: &mut Vec<u8>, names: &[Name], flags: &Flags, first: usize) -> 
 }
 
 // The same, or a `-` if none is.
-fn add_set(out: &mut Vec<u8>, names: &[Name], flags: &Flags, first: usize) -> Result<(), Memory> {
+pub(crate) fn add_set(
+    out: &mut Vec<u8>,
+    names: &[Name],
+    flags: &Flags,
+    first: usize,
+) -> Result<(), Memory> {
     let before = out.len();
     add_names(out, names, flags, first)?;
     if out.len() == before {

@@ -1,9 +1,6 @@
 -- What the flags tell is the activity.
-use Rattle.std.proofs.Common.{◌≡◌, ◌↔◌, ◌++◌, ℕ, map, length, get_or, sym, ap, subst, ◌∙◌}
-use Rattle.std.specs.Prelude.{IsTrue}
-use Rattle.std.proofs.lemmas.List.{length-map}
-use Rattle.std.proofs.Math.ListN.{get_or-map}
-use Rattle.adj_tree.specs.View.{procedure_of}
+use Rattle.std.proofs.Common.{◌≡◌, ◌↔◌, ◌++◌, ℕ, map, get_or, sym, ap, subst, ◌∙◌}
+use Rattle.std.specs.Prelude.{IsTrue, Some}
 use Rattle.def_flow.specs.Activity.{IsActivity}
 use Rattle.adj_flow.specs.Rows.{row_of}
 use Rattle.adj_reach.specs.Edges.{ReachedFrom, ReachedBack, flag}
@@ -13,7 +10,7 @@ use Rattle.adj_flow.specs.Scoped.{scope_by}
 use Rattle.adj_activity.specs.View.{flow_listed, shadows_listed}
 use Rattle.adj_activity.specs.Starts.{point_nodes, all_active}
 use Rattle.adj_activity.specs.declared.found.Found.{Found}
-use Rattle.adj_activity.proofs.Answering.{told_activity}
+use Rattle.adj_activity.proofs.Answering.{same_lengths, row_there, told_activity}
 use Rattle.adj_activity.proofs.finding.activity.Goals as goal
 
 pub returns : goal.returns
@@ -25,21 +22,20 @@ returns c =
     let w = fl.width in
     let part = c.index-as_slice-head.result in
     let r = row_of part in
-    let lengths : length (variables_of c.args.flow.now) ≡ length (units_of c.args.flow.now) = length-map c.args.flow.now.parts.items (λ p. p.variables.now) ∙ sym (length-map c.args.flow.now.parts.items (λ p. procedure_of p.unit.now)) in
     let row : row_of c.index-as_slice-head.result ≡ get_or (map row_of c.args.flow.now.parts.items) c.args.head.now.unit (row_of c.index-as_slice-head.result) =
-    sym (get_or-map row_of c.args.flow.now.parts.items c.args.head.now.unit c.index-as_slice-head.result ∙ ap row_of (sym (c.index-as_slice-head.is ∙ ap (λ z. get_or z c.args.head.now.unit c.index-as_slice-head.result) c.as_slice.ensures.value))) in
-    let f : Found = record { varied = c.as_slice-2.result; useful = c.as_slice-3.result; shadowed = c.as_slice-4.result } in
+    row_there c.args.flow.now c.args.head.now.unit c.index-as_slice-head.result (c.index-as_slice-head.is ∙ ap (λ z. get_or z c.args.head.now.unit c.index-as_slice-head.result) c.as_slice.ensures.value) in
+    let f : Found = record { varied = c.as_slice-2.result; useful = c.as_slice-useful_at.result; shadowed = c.as_slice-3.result } in
     let v = c.as_slice-2.ensures.members in
-    let u = c.as_slice-3.ensures.members in
-    let s = c.as_slice-4.ensures.members in
+    let u = c.as_slice-useful_at.ensures.members in
+    let s = c.as_slice-3.ensures.members in
     let adjointed = c.in_ok-adjointed.adjointed in
     let a = subst (λ z. (m : ℕ) → IsTrue (flag z m) ↔ ReachedFrom (flow_listed rs fl.numbers fl.taking w) (point_nodes w r r.part.entry hd.vars) m) (sym v) c.in_ok-varied.ensures.varied in
     let b = subst (λ z. (m : ℕ) → IsTrue (flag z m) ↔ ReachedBack (flow_listed rs fl.numbers fl.taking w) (point_nodes w r r.part.end hd.outvars) m) (sym u) c.in_ok-varied.ensures.useful in
     let d = subst
-    (λ z. (m : ℕ) → IsTrue (flag z m) ↔ ReachedFrom (shadows_listed f.varied rs fl.numbers fl.taking w) ((point_nodes w r r.part.number hd.vars ++ point_nodes w r r.part.number hd.outvars) ++ all_active f.varied.now f.useful.now rs fl.taking w) m)
+    (λ z. (m : ℕ) → IsTrue (flag z m) ↔ ReachedFrom (shadows_listed f.varied rs fl.numbers fl.taking w) ((point_nodes w r r.part.number hd.vars ++ point_nodes w r r.part.number hd.outvars) ++ all_active f.varied.now (Some f.useful) rs fl.taking w) m)
     (sym s) c.in_ok-shadowed.ensures.shadowed in
     record {
       activity =
           subst (λ z. IsActivity (problem_of fl hd) z) (λ i. activity_told (v i) (u i) (s i) adjointed (scope_by (variables_of fl) (flag fl.taking) (units_of fl)) w)
-          (told_activity (problem_of fl hd) (variables_of fl) fl.numbers fl.taking w is.numbers is.taking lengths is.width is.variables rs is.rows r f adjointed a b d c.in_ok-adjointed.ensures.adjointed is.head row);
+          (told_activity (problem_of fl hd) (variables_of fl) fl.numbers fl.taking w is.numbers is.taking (same_lengths fl) is.width is.variables rs is.rows r f adjointed a b d c.in_ok-adjointed.ensures.adjointed is.head row);
     }

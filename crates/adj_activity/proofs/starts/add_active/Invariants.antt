@@ -9,13 +9,13 @@ use Rattle.adj_flow.specs.Rows.{row_of}
 use Rattle.adj_flow.specs.WayView.{way_of}
 use Rattle.adj_flow.specs.Nodes.{node_in}
 use Rattle.adj_flow.specs.NodeView.{vars_of, told_at}
-use Rattle.adj_activity.specs.Starts.{active_nodes}
+use Rattle.adj_activity.specs.Starts.{is_useful_in, active_nodes}
 use Rattle.adj_activity.proofs.starts.add_active.Given as goal
 
 abbrev pub invariant-loop-name : goal.invariant-loop-name
 invariant-loop-name l =
     l.nodes.items
     ++ flat_map
-    (λ v. list_if (somewhere (map way_of l.part.ways.items) (λ p. told_at l.sets.varied.now l.width (row_of l.part) p v) && somewhere (map way_of l.part.ways.items) (λ p. told_at l.sets.useful.now l.width (row_of l.part) p v)) (list_of (node_in l.width (vars_of (row_of l.part)) (l.part.number, v))))
+    (λ v. list_if (somewhere (map way_of l.part.ways.items) (λ p. told_at l.sets.varied.now l.width (row_of l.part) p v) && is_useful_in l.sets.useful l.width (row_of l.part) v) (list_of (node_in l.width (vars_of (row_of l.part)) (l.part.number, v))))
     (map (λ n. plain n) (drop l.name-index l.name-items))
-    ≡ l.initial.nodes.items ++ active_nodes l.sets.varied.now l.sets.useful.now l.width (row_of l.part)
+    ≡ l.initial.nodes.items ++ active_nodes l.sets.varied.now l.sets.useful l.width (row_of l.part)

@@ -9,5 +9,5 @@ use Rattle.adj_activity.proofs.starts.add_all_active.Given as goal
 
 abbrev pub invariant-loop-part : goal.invariant-loop-part
 invariant-loop-part l =
-    l.nodes.items ++ flat_map (λ r. list_if (flag l.flow.taking r.part.number) (active_nodes l.sets.varied.now l.sets.useful.now l.flow.width r)) (map row_of (drop l.part-index l.part-items))
-    ≡ l.initial.nodes.items ++ all_active l.sets.varied.now l.sets.useful.now (map row_of l.flow.parts.items) l.flow.taking l.flow.width
+    l.nodes.items ++ flat_map (λ r. list_if (flag l.flow.taking r.part.number) (active_nodes l.sets.varied.now l.sets.useful l.flow.width r)) (map row_of (drop l.part-index l.part-items))
+    ≡ l.initial.nodes.items ++ all_active l.sets.varied.now l.sets.useful (map row_of l.flow.parts.items) l.flow.taking l.flow.width
