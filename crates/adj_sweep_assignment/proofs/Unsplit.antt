@@ -7,3 +7,4 @@ use Rattle.adj_sweep_assignment.specs.View.{marks_of}
 pub never_split : (m : marking.Marking) (i : ℕ) → (marks_of m).split i ≡ false
 never_split from.Full i = refl
 never_split (from.Found f) i = refl
+never_split (from.Carried c) i = refl

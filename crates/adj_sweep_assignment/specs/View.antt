@@ -4,7 +4,9 @@ use Rattle.adj_tree.specs.Code.{Var, plain}
 use Rattle.def_sweep.specs.Marks.{Marks, full}
 use Rattle.adj_reach.specs.Edges.{flag}
 use Rattle.adj_symbols_writes.specs.Table.{value_of}
+use Rattle.def_names.specs.Numbers.{Vars}
 use Rattle.adj_sweep_assignment.specs.declared.marking.Found.{Found}
+use Rattle.adj_sweep_assignment.specs.declared.marking.Carried.{Carried}
 use Rattle.adj_sweep_assignment.specs.declared.marking.Marking as marking
 use Rattle.adj_sweep_assignment.specs.declared.marking.Marking.TheVariants as from
 
@@ -30,7 +32,16 @@ found_marks f = record {
   shadowed = λ v. flag_of f.marks.now.activity.shadowed f.width f.unit (place_of f.places.now v);
 }
 
+-- the variables of a unit that carry a tangent, by flags
+abbrev pub carried_by : Carried → Vars
+carried_by c v = flag_of c.flags.now c.width c.unit (place_of c.places.now v)
+
+-- everything is marked, but only these variables have a shadow
+abbrev pub carried_marks : Vars → Marks
+carried_marks on = record full { shadowed = on }
+
 -- the marks that the theorem on sweeps speaks of
 abbrev pub marks_of : marking.Marking → Marks
 marks_of from.Full = full
 marks_of (from.Found f) = found_marks f
+marks_of (from.Carried c) = carried_marks (carried_by c)

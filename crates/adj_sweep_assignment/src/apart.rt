@@ -77,8 +77,8 @@ impl<'a> Site<'a> {
         })
     }
 
-    // Whether the factor a of a product with b has a temporary of its own. It searches b up to its first active occurrence.
-    fn has_own(&self, a: &Expr, b: &Expr) -> bool
+    /// Whether the factor a of a product with b has a temporary of its own. It searches b up to its first active occurrence.
+    pub fn has_own(&self, a: &Expr, b: &Expr) -> bool
         ensures own { result ≡ has_own_where (active_in self.now) (term_of a.now) (term_of b.now) }
     {
         is_compound(a) && self.is_active(b)
@@ -116,7 +116,7 @@ impl<'a> Site<'a> {
 
     /// A term taken apart, where its first temporary has this number. The assignments of the temporaries come behind other statements.
     #[cycle(apart)]
-    pub(crate) fn apart(
+    pub fn apart(
         &self,
         alloc: Global,
         e: &Expr,

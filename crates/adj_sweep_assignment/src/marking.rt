@@ -5,7 +5,7 @@ ghost use Rattle.adj_tree.specs.Code.{plain};
 ghost use Rattle.def_sweep.specs.Marks.{active_at};
 ghost use Rattle.def_names.specs.Numbering.{point_before};
 ghost use Rattle.adj_reach.specs.Edges.{flag};
-ghost use Rattle.adj_sweep_assignment.specs.View.{flag_of, place_of, marks_of};
+ghost use Rattle.adj_sweep_assignment.specs.View.{flag_of, place_of, carried_by, marks_of};
 
 use adj_reach::flag_at;
 use adj_symbols_writes::table::Numbers;
@@ -113,6 +113,25 @@ impl Found<'_> {
     }
 }
 
+/// The variables of one unit that carry a tangent, by flags: the number of the unit, the places of its variables, and how many variables
+/// a unit has at most. The flag of a variable stands where the unit has its number times the width, and the variable its place.
+#[derive(Clone, Copy)]
+pub struct Carried<'a> {
+    pub flags: &'a [bool],
+    pub unit: usize,
+    pub places: &'a Numbers<'a>,
+    pub width: usize,
+}
+
+impl Carried<'_> {
+    // Whether the variable carries a tangent.
+    fn has(&self, x: &Name) -> bool
+        ensures { result ≡ carried_by self.now (plain x.now) }
+    {
+        flag_of(self.flags, self.width, self.unit, self.places.get(x))
+    }
+}
+
 /// The marks of the statements and variables of a unit. Statements have their numbers.
 #[derive(Clone, Copy)]
 pub enum Marking<'a> {
@@ -120,6 +139,8 @@ pub enum Marking<'a> {
     Full,
     /// What analyses found is marked.
     Found(Found<'a>),
+    /// Everything is marked, but only variables that carry a tangent have a shadow.
+    Carried(Carried<'a>),
 }
 
 impl Marking<'_> {
@@ -130,6 +151,7 @@ impl Marking<'_> {
         match self {
             Marking::Full => true,
             Marking::Found(found) => found.kept(number),
+            Marking::Carried(_) => true,
         }
     }
 
@@ -140,6 +162,7 @@ impl Marking<'_> {
         match self {
             Marking::Full => true,
             Marking::Found(found) => found.adjointed(number),
+            Marking::Carried(_) => true,
         }
     }
 
@@ -157,6 +180,7 @@ impl Marking<'_> {
         match self {
             Marking::Full => true,
             Marking::Found(found) => found.saved(number, x),
+            Marking::Carried(_) => true,
         }
     }
 
@@ -167,6 +191,7 @@ impl Marking<'_> {
         match self {
             Marking::Full => true,
             Marking::Found(found) => found.shadowed(x),
+            Marking::Carried(carried) => carried.has(x),
         }
     }
 
@@ -177,6 +202,7 @@ impl Marking<'_> {
         match self {
             Marking::Full => true,
             Marking::Found(found) => found.varied(number, x),
+            Marking::Carried(_) => true,
         }
     }
 

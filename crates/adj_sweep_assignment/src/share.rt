@@ -92,8 +92,8 @@ fn lessened(alloc: Global, e: &Expr) -> Result<Box<Expr>, Memory>
     boxed(alloc, Expr::Bin(Op::Max, less, bound))
 }
 
-// The power with an exponent that is less by 1, but not below 0.
-fn guarded(alloc: Global, base: &Expr, exponent: &Expr) -> Result<Box<Expr>, Memory>
+/// The power with an exponent that is less by 1, but not below 0.
+pub fn guarded(alloc: Global, base: &Expr, exponent: &Expr) -> Result<Box<Expr>, Memory>
     ensures power { IfOk result (λ e. term_of e.value ≡ guarded_power (term_of base.now) (term_of exponent.now)) }
 {
     let less = lessened(alloc, exponent)?;

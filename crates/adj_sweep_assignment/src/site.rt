@@ -25,14 +25,14 @@ pub struct Site<'a> {
 
 impl<'a> Site<'a> {
     /// Whether occurrences of the variable are active.
-    pub(crate) fn is_active_name(&self, x: &Name) -> bool
+    pub fn is_active_name(&self, x: &Name) -> bool
         ensures active { result ≡ active_in self.now (plain x.now) }
     {
         self.marks.active(self.number, x)
     }
 
     /// Whether the term has an active occurrence.
-    pub(crate) fn is_active(&self, e: &Expr) -> bool
+    pub fn is_active(&self, e: &Expr) -> bool
         ensures active { result ≡ is_active_where (active_in self.now) (term_of e.now) }
     {
         match e {
@@ -48,7 +48,7 @@ impl<'a> Site<'a> {
     }
 
     /// The work variable of a number.
-    pub(crate) fn work_var(&self, alloc: Global, number: usize) -> Result<Box<Expr>, Memory>
+    pub fn work_var(&self, alloc: Global, number: usize) -> Result<Box<Expr>, Memory>
         ensures variable { IfOk result (λ e. term_of e.value ≡ var (naming_of self.now (helper work number))) }
     {
         let name = self.names.helper(alloc, Role::Work, number)?;
@@ -56,7 +56,7 @@ impl<'a> Site<'a> {
     }
 
     /// The temporary of a number.
-    pub(crate) fn temp_var(&self, alloc: Global, number: usize) -> Result<Box<Expr>, Memory>
+    pub fn temp_var(&self, alloc: Global, number: usize) -> Result<Box<Expr>, Memory>
         ensures variable { IfOk result (λ e. term_of e.value ≡ var (naming_of self.now (helper temp number))) }
     {
         let name = self.names.helper(alloc, Role::Temp, number)?;

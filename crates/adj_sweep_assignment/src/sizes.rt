@@ -17,7 +17,7 @@ pub fn plus(a: usize, b: usize) -> Result<usize, Memory>
 }
 
 /// Whether the term is neither a literal nor a name nor an element.
-pub(crate) fn is_compound(e: &Expr) -> bool
+pub fn is_compound(e: &Expr) -> bool
     ensures compound { result ≡ is_compound (term_of e.now) }
 {
     match e {
@@ -28,7 +28,7 @@ pub(crate) fn is_compound(e: &Expr) -> bool
 }
 
 /// Whether the factor a of a product has a temporary of its own, where it is known whether the other is active.
-pub(crate) fn has_own_beside(a: &Expr, active: bool) -> bool
+pub fn has_own_beside(a: &Expr, active: bool) -> bool
     ensures own { result ≡ (is_compound (term_of a.now) && active) }
 {
     is_compound(a) && active

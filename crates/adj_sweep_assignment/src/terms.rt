@@ -15,7 +15,7 @@ pub fn sum(alloc: Global, a: Box<Expr>, b: Box<Expr>) -> Result<Box<Expr>, Memor
 }
 
 /// An element.
-pub(crate) fn element(alloc: Global, name: &Name, subs: &Exprs) -> Result<Box<Expr>, Memory>
+pub fn element(alloc: Global, name: &Name, subs: &Exprs) -> Result<Box<Expr>, Memory>
     ensures element { IfOk result (λ x. term_of x.value ≡ elem (plain name.now) (terms_of subs.now)) }
 {
     let copied = name.copy(alloc)?;

@@ -10,8 +10,8 @@ use Rattle.def_sweep.specs.Marking.{ProgramMarks, place_from}
 use Rattle.def_sweep.specs.Program.{answers, has_adjoint}
 use Rattle.adj_weave.specs.declared.marks.Marked.{Marked}
 use Rattle.adj_weave.specs.Marked.{program_marks, unit_marks, IsOver}
-use Rattle.adj_weave.proofs.Places.{At, at_next, at_number, find_at}
-use Rattle.adj_weave.proofs.Ordered.{unit_place}
+use Rattle.adj_weave_units.proofs.Places.{At, at_next, at_number, find_at}
+use Rattle.adj_weave_units.proofs.Ordered.{unit_place}
 use Rattle.adj_weave.proofs.UnitMarks.{marks_alike}
 
 -- what is found at a number stands there

@@ -28,8 +28,8 @@ use Rattle.adj_weave.specs.declared.marks.Marked.{Marked}
 use Rattle.adj_weave.specs.declared.marks.Marked.TheVariants as by
 use Rattle.adj_weave.specs.Marked.{program_marks, reads_in, unit_dummy, dummy_told, HasUnits, KnowsUnits, IsOver}
 use Rattle.adj_weave.specs.Orders.{dummy_said, dummies_said, said, said_of}
-use Rattle.adj_weave.proofs.Places.{At, at_first, at_next, at_rest, at_there, at_one, at_map, at_place, no_place, find_at}
-use Rattle.adj_weave.proofs.Ordered.{unit_place}
+use Rattle.adj_weave_units.proofs.Places.{At, at_first, at_next, at_rest, at_there, at_one, at_map, at_place, no_place, find_at}
+use Rattle.adj_weave_units.proofs.Ordered.{unit_place}
 
 -- ---- how many units there are
 

@@ -1,19 +1,14 @@
--- Lists passed one by one, and units at their places.
-pub mod Walks
-pub mod Places
+-- Which units are emitted, what is known of each, and what is put together.
 pub mod Unsplit
 pub mod Ordered
 pub mod Calling
-pub mod Edges
 pub mod Reached
 pub mod Known
 pub mod Facts
-pub mod Declared
 pub mod Taking
 pub mod Flagged
 pub mod UnitMarks
 pub mod Alike
-pub mod Renamed
 pub mod Units
 pub mod Program
 pub mod Headed

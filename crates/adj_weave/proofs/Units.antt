@@ -1,8 +1,8 @@
 -- The adjoint of a unit is put together.
-use Rattle.std.proofs.Common.{◌≡◌, ℕ, Bool, true, false, if◌then◌else◌, List, [], ◌∷◌, ◌++◌, map, refl, sym, ap, ◌∙◌}
-use Rattle.std.specs.Prelude.{◌||◌, ◌==◌, not, length, Option, Some}
-use Rattle.adj_tree.specs.Code.{Var, plain, shadow, helper, Code, Declaration, Procedure, var_eq, name_eq}
-use Rattle.def_meaning.specs.Apart.{is_named, has_name, AreApart}
+use Rattle.std.proofs.Common.{◌≡◌, ℕ, Bool, true, false, List, [], ◌∷◌, ◌++◌, map, refl, sym, ap, ◌∙◌}
+use Rattle.std.specs.Prelude.{◌==◌, ◌||◌, Option, Some}
+use Rattle.adj_tree.specs.Code.{Var, plain, shadow, helper, Code, Declaration, Procedure, var_eq}
+use Rattle.def_meaning.specs.Apart.{has_name}
 use Rattle.def_meaning.specs.Rename.{rename}
 use Rattle.def_meaning.specs.Written.{find_unit}
 use Rattle.def_names.specs.Fault.{run_rules}
@@ -15,10 +15,9 @@ use Rattle.def_sweep.specs.Naming.{Named, named, name_in, naming}
 use Rattle.def_sweep.specs.Declared.{declared_helpers}
 use Rattle.def_sweep.specs.MarkedProgram.{shadows_behind, declared_behind}
 use Rattle.law_sweep.proofs.Naming.{own-name}
-use Rattle.def_names.proofs.Variables.{or_false}
 use Rattle.def_sweep.specs.Plan.{Plan, Schedules}
 use Rattle.def_sweep.specs.Names.{adjoint_name}
-use Rattle.def_sweep.specs.Marking.{ProgramMarks, SplitsNothing, first_statement, plan_in, arrays_of}
+use Rattle.def_sweep.specs.Marking.{ProgramMarks, SplitsNothing, first_statement, plan_in}
 use Rattle.def_sweep.specs.Program.{helpers_used_with, adjoint_names_with, adjoint_unit_with, schedules_in}
 use Rattle.def_sweep.specs.Emission.{adjoint_body_with}
 use Rattle.law_emitted.proofs.Lists.{Each, each_found}
@@ -36,10 +35,7 @@ use Rattle.adj_naming.specs.declared.names.Names.{Names}
 use Rattle.adj_naming.specs.Sets.{has_variable, AreDifferent}
 use Rattle.adj_naming.specs.Table.{table_of, named_by}
 use Rattle.adj_weave.specs.Shared.{HaveShadows}
-use Rattle.adj_weave.proofs.Declared.{shadow_undeclared, helper_undeclared}
-use Rattle.adj_weave.proofs.Renamed.{code_same}
-
--- ---- helpers
+use Rattle.adj_weave_units.proofs.Renamed.{code_same}
 
 same_among : (v : Var) (vs : List Var) → has_variable v vs ≡ among v vs
 same_among v [] = refl
@@ -52,34 +48,6 @@ different (v ∷ vs) h = (same_among v vs ∙ h.0, different vs h.1)
 -- the helpers of a unit stand once
 pub helpers_different : (sc : Schedules) (p : Plan) (i : ℕ) (c : Code) → AreDifferent (helpers_used_with sc p i c)
 helpers_different sc p i c = different (helpers_used_with sc p i c) (used_apart_with sc p i c)
-
--- ---- the plan
-
--- those of the variables that have a shadow are apart
-not_named : (a : Vars) (x : List ℕ) (xs : List (List ℕ)) → has_name x xs ≡ false → has_name x (names_in a xs) ≡ false
-not_named a x [] h = refl
-not_named a x (y ∷ xs) h = let p = or_false (name_eq x y) (has_name x xs) h in go (a (plain y)) p.0 (not_named a x xs p.1)
-  where
-    go : (b : Bool) → name_eq x y ≡ false → has_name x (names_in a xs) ≡ false → has_name x (if b then y ∷ names_in a xs else names_in a xs) ≡ false
-    go true d e = rw (d, e) refl
-    go false d e = e
-
-pub shadowed_apart : (a : Vars) (xs : List (List ℕ)) → AreApart xs → AreApart (names_in a xs)
-shadowed_apart a [] h = tt
-shadowed_apart a (x ∷ xs) h = go (a (plain x)) (shadowed_apart a xs h.1)
-  where
-    go : (b : Bool) → AreApart (names_in a xs) → AreApart (if b then x ∷ names_in a xs else names_in a xs)
-    go true ih = (not_named a x xs h.0, ih)
-    go false ih = ih
-
--- the variables that are known as arrays are those that the unit declares with extents
-pub arrays_are : (u : Procedure) (arrays : List (List ℕ)) → ((x : List ℕ) → has_name x arrays ≡ arrays_of u (plain x)) → is_named arrays ≡ arrays_of u
-arrays_are u arrays h = λ i v. same v i
-  where
-    same : (v : Var) → is_named arrays v ≡ arrays_of u v
-    same (plain x) = h x
-    same (shadow x) = sym (ap (λ (l : List _). not (length l == 0)) (shadow_undeclared u.declarations x))
-    same (helper r k) = sym (ap (λ (l : List _). not (length l == 0)) (helper_undeclared u.declarations r k))
 
 -- ---- the body
 

@@ -1,5 +1,4 @@
 -- the definitions of the crate, a module a subject
-pub mod Parts
 pub mod Marked
 pub mod Alike
 pub mod Orders

@@ -6,23 +6,18 @@ use Rattle.def_meaning.specs.Written.{find_unit}
 use Rattle.def_names.specs.Numbers.{Vars}
 use Rattle.def_sweep.specs.Marks.{Marks, full}
 use Rattle.def_sweep.specs.Marking.{ProgramMarks, full_marks, dummy_set, place_from, read_by}
-use Rattle.def_flow.specs.Rules.{Scope}
 use Rattle.adj_reach.specs.Edges.{flag}
 use Rattle.adj_flow.specs.declared.units.Flow.{Flow}
-use Rattle.adj_flow.specs.Asked.{IsFlow, units_of, variables_of}
+use Rattle.adj_flow.specs.Asked.{units_of, variables_of}
 use Rattle.adj_flow.specs.Nodes.{node_in}
-use Rattle.adj_flow.specs.Scoped.{scope_by}
 use Rattle.adj_flow.specs.Told.{flag_at, told_of}
 use Rattle.adj_flow.specs.Marked.{activity_of, liveness_of, saved_of}
 use Rattle.adj_sweep.specs.declared.callees.Dummy.{Dummy}
+use Rattle.adj_weave_units.specs.Flowing.{scope_in, IsFlowOf}
 use Rattle.adj_weave.specs.declared.marks.Marked as marked
 use Rattle.adj_weave.specs.declared.marks.Marked.TheVariants as by
 
 -- ---- what flags tell over the flow of a program
-
--- the units that take part, with their variables
-abbrev pub scope_in : Flow → Scope
-scope_in f = scope_by (variables_of f) (flag f.taking) (units_of f)
 
 -- the marks of the program: no call is split
 abbrev pub marks_told : Flow → flags.Marks → ProgramMarks
@@ -93,11 +88,6 @@ HasUnits (by.Found g) n = n ≤ length g.flow.now.parts.items
 abbrev pub KnowsUnits : marked.Marked → List Procedure → Type 0
 KnowsUnits by.Full ps = Unit {0}
 KnowsUnits (by.Found g) ps = units_of g.flow.now ≡ ps
-
--- the flow is that of the program, of which the unit of the number h is the head
-pub record IsFlowOf (ps : List Procedure) (h : ℕ) (f : Flow) : Type 0 where
-  pub flow : IsFlow f h
-  pub units : units_of f ≡ ps
 
 -- what is found, is found over the flow of the program
 abbrev pub IsOver : marked.Marked → List Procedure → ℕ → Type 0

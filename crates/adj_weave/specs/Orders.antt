@@ -1,66 +1,15 @@
--- What units get in their order: numbers of statements, names of adjoints, calls between them, and what is known of their dummies.
-use Rattle.std.specs.Prelude.{ℕ, suc, List, [], ◌∷◌, ◌++◌, Bool, true, false, ◌&&◌, ◌||◌, Option, Some, None, if◌then◌else◌, position, codes, drop}
-use Rattle.adj_tree.specs.Code.{name_eq, Mark, unmarked, with_count, count_from, Act, assign, choose, loop, during, call, runtime, Code, stop, step, Procedure}
-use Rattle.def_names.specs.Fresh.{fresh}
-use Rattle.def_names.specs.Numbers.{next, behind}
-use Rattle.def_sweep.specs.Plan.{found_or}
+-- Which calls count by marks, and what is known of the dummies of units in their order.
+use Rattle.std.specs.Prelude.{ℕ, suc, List, [], ◌∷◌, Bool, ◌&&◌, ◌||◌, drop}
+use Rattle.adj_tree.specs.Code.{Procedure}
 use Rattle.def_sweep.specs.Marking.{ProgramMarks}
-use Rattle.adj_reach.specs.Edges.{Edges, flag}
+use Rattle.adj_reach.specs.Edges.{flag}
 use Rattle.adj_sweep.specs.HelperSteps.{are_reversed}
 use Rattle.adj_sweep.specs.declared.callees.Dummy.{Dummy}
 use Rattle.adj_sweep.specs.declared.callees.Callee.{Callee}
-use Rattle.adj_weave.specs.declared.calls.Call.{Call}
 use Rattle.adj_weave.specs.declared.calls.Counting as counting
 use Rattle.adj_weave.specs.declared.calls.Counting.TheVariants as which
 use Rattle.adj_weave.specs.declared.marks.Marked.{Marked}
 use Rattle.adj_weave.specs.Marked.{program_marks, unit_dummy}
-
--- the numbers of the first statements of units, where that of the first unit is i
-abbrev pub numbers_from : ℕ → List Procedure → List ℕ
-numbers_from i [] = []
-numbers_from i (u ∷ us) = i ∷ numbers_from (behind i u.body) us
-
--- the names of the adjoints of units, each by a name that isn't taken
-abbrev pub adjoints_from : List (List ℕ) → List Procedure → List (List ℕ)
-adjoints_from taken [] = []
-adjoints_from taken (u ∷ us) = fresh (u.name ++ codes "_B") taken ∷ adjoints_from (taken ++ (fresh (u.name ++ codes "_B") taken ∷ [])) us
-
--- ---- calls
-
--- what a list calls, if a call is all that it is
-abbrev pub only_called : Code → Option (List ℕ)
-only_called (step line (call name args) stop) = Some name
-only_called body = None
-
--- what the turns of a marked loop call, if a call is all that they do
-abbrev pub turned : Mark → Code → Option (List ℕ)
-turned unmarked body = None
-turned (with_count n) body = only_called body
-turned (count_from x) body = only_called body
-
--- a call in the i-th statement, from a unit to one that is found; whether it is all that the turns of a marked loop do
-abbrev pub call_to : ℕ → ℕ → Bool → Option ℕ → List Call
-call_to i k turns None = []
-call_to i k turns (Some j) = record { number = i; from = k; to = j; turns = turns } ∷ []
-
--- the calls in the i-th statement, or in a list that begins with it, of the k-th unit, where the units have these names
-abbrev mutual
-  pub listed_act : List (List ℕ) → ℕ → ℕ → Act → List Call
-  listed_act names k i (assign x subs e) = []
-  listed_act names k i (choose c a b) = listed_in names k (suc i) a ++ listed_in names k (behind (suc i) a) b
-  listed_act names k i (loop x a b c body m) = found_or (turned m body) (listed_in names k (suc i) body) (λ name. call_to (suc i) k true (position (name_eq name) names))
-  listed_act names k i (during c body) = listed_in names k (suc i) body
-  listed_act names k i (call name args) = call_to i k false (position (name_eq name) names)
-  listed_act names k i (runtime r) = []
-
-  pub listed_in : List (List ℕ) → ℕ → ℕ → Code → List Call
-  listed_in names k i stop = []
-  listed_in names k i (step line a rest) = listed_act names k i a ++ listed_in names k (next i a) rest
-
--- those of units of which the first is the k-th and begins with the i-th statement
-abbrev pub listed_from : List (List ℕ) → ℕ → ℕ → List Procedure → List Call
-listed_from names k i [] = []
-listed_from names k i (u ∷ us) = listed_in names k i u.body ++ listed_from names (suc k) (behind i u.body) us
 
 -- a call that an adjoint makes as it is: a kept one, or where marked loops are reversed by schedules an adjointed one in their turns
 abbrev pub is_plain_call : ProgramMarks → Bool → ℕ → Bool → Bool
@@ -68,25 +17,8 @@ is_plain_call m reversed i turns = m.kept i || (reversed && (turns && m.adjointe
 
 -- the calls that count, by the numbers of their statements and by whether they are all that the turns of a marked loop do
 abbrev pub is_edge : Marked → counting.Counting → ℕ → Bool → Bool
-is_edge m which.All i turns = true
 is_edge m (which.Plain loops) i turns = is_plain_call (program_marks m) (are_reversed loops) i turns
 is_edge m which.Adjointed i turns = (program_marks m).adjointed i
-
--- an edge for each call of a set
-abbrev pub edges_of : (ℕ → Bool → Bool) → List Call → Edges
-edges_of f [] = []
-edges_of f (c ∷ cs) = if f c.number c.turns then (c.from, c.to) ∷ edges_of f cs else edges_of f cs
-
--- the ends of the edges that come from flagged nodes
-abbrev pub ends_of : List Bool → Edges → List ℕ
-ends_of flags [] = []
-ends_of flags (e ∷ es) = if flag flags e.0 then e.1 ∷ ends_of flags es else ends_of flags es
-
--- the names that are flagged
-abbrev pub flagged : List Bool → List (List ℕ) → List (List ℕ)
-flagged [] xs = []
-flagged (f ∷ fs) [] = []
-flagged (f ∷ fs) (x ∷ xs) = if f then x ∷ flagged fs xs else flagged fs xs
 
 -- ---- callees
 

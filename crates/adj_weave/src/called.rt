@@ -14,12 +14,12 @@ ghost use Rattle.adj_weave.specs.Marked.{program_marks, reads_in, HasUnits, Know
 ghost use Rattle.adj_weave.specs.Orders.{dummies_said, said, said_of};
 
 use crate::marks::Marked;
-use crate::source::units_of;
 use adj_reach::flag_at;
 use adj_sets::{NameSet, add_names};
 use adj_sweep::callees::{Callee, Callees, Dummy};
 use adj_symbols::Checked;
 use adj_tree::{Memory, Name};
+use adj_weave_units::source::units_of;
 use std::alloc::Global;
 
 // What the sweeps of calls know of the dummies of the unit at a place, of which flags say whether it writes them, and whether it reads

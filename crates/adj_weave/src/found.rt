@@ -1,6 +1,6 @@
 //! Which units are emitted (docs/EMITTED.md, "The units").
 
-ghost use Rattle.std.specs.Prelude.{◌≡◌, ◌∷◌, [], ◌<◌, ◌+◌, ◌^◌, IfOk, map, length};
+ghost use Rattle.std.specs.Prelude.{◌≡◌, ◌∷◌, [], ◌<◌, IfOk, map, length};
 ghost use Rattle.adj_tree.specs.Code.{Procedure};
 ghost use Rattle.adj_tree.specs.View.{procedure_of};
 ghost use Rattle.def_meaning.specs.Apart.{AreApart};
@@ -8,14 +8,15 @@ ghost use Rattle.def_sweep.specs.Declared.{unit_name, unit_at};
 ghost use Rattle.def_sweep.specs.Program.{has_adjoint, is_carried_with};
 ghost use Rattle.adj_sweep.specs.HelperSteps.{are_reversed};
 ghost use Rattle.adj_weave.specs.Marked.{program_marks};
-ghost use Rattle.adj_weave.specs.Orders.{ends_of};
 
-use crate::calls::{Counting, edges, listed_calls};
+use crate::calls::{Counting, edges};
 use crate::marks::Marked;
-use adj_reach::{flag_at, reach};
+use adj_reach::reach;
 use adj_sets::NameSet;
 use adj_sweep::steps::MarkedLoops;
 use adj_tree::{Flags, Memory, Unit};
+use adj_weave_units::calls::{all_edges, listed_calls};
+use adj_weave_units::found::{ends_of, fits};
 use std::alloc::Global;
 
 /// By the places of units: those whose adjoint is emitted, and those that are emitted as they are.
@@ -23,30 +24,6 @@ use std::alloc::Global;
 pub struct Found {
     pub adjointed: Flags,
     pub carried: Flags,
-}
-
-// The ends of the edges that come from flagged nodes.
-fn ends_of(alloc: Global, flags: &[bool], edges: &[(usize, usize)]) -> Result<Vec<usize>, Memory>
-    ensures ends { IfOk result (λ v. v.items ≡ ends_of flags.now edges.now) }
-{
-    let mut made = Vec::new(alloc);
-    for edge in edges {
-        if flag_at(flags, edge.0) {
-            made.push(edge.1)?;
-        }
-    }
-    Ok(made)
-}
-
-// Whether there are few enough units for a search. More would not fit the memory.
-fn fits(count: usize) -> Result<(), Memory>
-    ensures fits { IfOk result (λ u. count + 1 < 2 ^ 64) }
-{
-    if count < usize::MAX {
-        Ok(())
-    } else {
-        Err(Memory)
-    }
 }
 
 /// The units that are emitted for a head by these marks, where marked loops are gone through so.
@@ -70,10 +47,10 @@ pub fn found_units(
     let calls = listed.as_slice();
     let adjoint_edges = edges(alloc, marked, Counting::Adjointed, calls)?;
     let plain_edges = edges(alloc, marked, Counting::Plain(loops), calls)?;
-    let all_edges = edges(alloc, marked, Counting::All, calls)?;
+    let every_edge = all_edges(alloc, calls)?;
     let start = [head];
     let adjointed = reach(alloc, count, adjoint_edges.as_slice(), &start)?;
     let called = ends_of(alloc, adjointed.as_slice(), plain_edges.as_slice())?;
-    let carried = reach(alloc, count, all_edges.as_slice(), called.as_slice())?;
+    let carried = reach(alloc, count, every_edge.as_slice(), called.as_slice())?;
     Ok(Found { adjointed, carried })
 }

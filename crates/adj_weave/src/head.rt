@@ -4,17 +4,14 @@ ghost use Rattle.std.specs.Prelude.{◌≡◌, ◌<◌, Some, IfOk, length, map,
 ghost use Rattle.adj_tree.specs.Code.{Procedure};
 ghost use Rattle.adj_tree.specs.View.{procedures_of};
 ghost use Rattle.def_sweep.specs.MarkedAdjoint.{shadow_flags};
-ghost use Rattle.def_meaning.specs.Apart.{AreApart};
-ghost use Rattle.def_sweep.specs.Declared.{unit_name};
 ghost use Rattle.def_sweep.specs.Names.{adjoint_name};
-ghost use Rattle.adj_sweep_assignment.specs.View.{marks_of};
 ghost use Rattle.adj_weave.specs.Marked.{program_marks, IsOver};
 
 use crate::marks::Marked;
-use crate::source::{adjoint_names as names_of_adjoints, source_names, unit_names, units_of};
-use adj_sweep_assignment::Marking;
 use adj_symbols::Checked;
 use adj_tree::{Flags, Head, Items, Memory, Name};
+use adj_weave_units::shadows::shadow_flags;
+use adj_weave_units::source::{made_names, source_names, unit_names, units_of};
 use std::alloc::Global;
 
 /// The name of the adjoint of a head, and for each dummy of the head whether it has a shadow.
@@ -31,19 +28,8 @@ fn adjoint_names(alloc: Global, checked: &Checked) -> Result<Vec<Name>, Memory>
     let units = units_of(checked);
     let own = unit_names(alloc, units)?;
     let source = source_names(alloc, own.as_slice(), checked)?;
-    let names = names_of_adjoints(alloc, units, &source)?;
+    let names = made_names(alloc, units, b"_B", &source)?;
     Ok(names)
-}
-
-// Which of the variables have a shadow.
-fn shadow_flags(alloc: Global, marking: &Marking<'_>, names: &[Name]) -> Result<Vec<bool>, Memory>
-    ensures flags { IfOk result (λ v. v.items ≡ shadow_flags (marks_of marking.now).shadowed names.now) }
-{
-    let mut flags = Vec::new(alloc);
-    for name in names {
-        flags.push(marking.shadowed(name))?;
-    }
-    Ok(flags)
 }
 
 /// The adjoint of the head in what is emitted for it by these marks, found over the flow of the program.

@@ -5,7 +5,8 @@ ghost use Rattle.adj_tree.specs.Code.{plain};
 ghost use Rattle.adj_reach.specs.Edges.{flag};
 ghost use Rattle.adj_flow.specs.Told.{told_of};
 ghost use Rattle.adj_sweep_assignment.specs.View.{found_marks, marks_of};
-ghost use Rattle.adj_weave.specs.Marked.{scope_in, marks_at, dummy_told, program_marks, unit_marks, unit_dummy, HasUnits};
+ghost use Rattle.adj_weave_units.specs.Flowing.{scope_in};
+ghost use Rattle.adj_weave.specs.Marked.{marks_at, dummy_told, program_marks, unit_marks, unit_dummy, HasUnits};
 
 use adj_flow::{End, Flow, told};
 use adj_reach::flag_at;

@@ -5,10 +5,7 @@ ghost use Rattle.adj_tree.specs.View.{procedure_of};
 ghost use Rattle.def_sweep.specs.Program.{adjoint_unit_with};
 ghost use Rattle.adj_weave.specs.Shared.{sources, marks_for, reversed_for, IsShared, IsPart, HaveShadows};
 
-use crate::arrays::arrays_of;
-use crate::declarations::declarations;
 use crate::marks::Marked;
-use crate::shadows::{shadowed, with_shadows};
 use adj_naming::naming::names;
 use adj_sets::NameSet;
 use adj_sweep::bodies::Body;
@@ -20,6 +17,9 @@ use adj_sweep::uses::Known;
 use adj_sweep_assignment::Marking;
 use adj_symbols::Checked;
 use adj_tree::{Items, Memory, Name, Unit};
+use adj_weave_units::arrays::arrays_of;
+use adj_weave_units::declarations::declarations;
+use adj_weave_units::shadows::{shadowed, with_shadows};
 use std::alloc::Global;
 
 /// What the adjoints of all units share: the checked program, its marks, whether marked loops are reversed, what is known of called units, the

@@ -10,22 +10,22 @@ ghost use Rattle.def_sweep.specs.Program.{has_adjoint, is_carried_with, emitted_
 ghost use Rattle.law_emitted.specs.Shadowed.{AllHaveShadows};
 ghost use Rattle.adj_sweep.specs.HelperSteps.{are_reversed};
 ghost use Rattle.adj_weave.specs.Marked.{program_marks, IsOver};
-ghost use Rattle.adj_weave.specs.Orders.{flagged};
+ghost use Rattle.adj_weave_units.specs.Calls.{flagged};
 ghost use Rattle.adj_weave.specs.Shared.{sources, marks_for, reversed_for, IsPart};
 ghost use Rattle.adj_weave.specs.Woven.{IsTable, IsReady, head_of, only_if, emitted_for};
 
 use crate::called::known_callees;
 use crate::found::{Found, found_units};
 use crate::marks::Marked;
-use crate::numbers::first_statements;
-use crate::shadows::{shadowed, unmarked};
-use crate::source::{add_all_flagged, adjoint_names, source_names, unit_names, units_of};
 use crate::unit::{Part, Shared, adjoint_unit};
 use adj_naming::naming::not_free;
 use adj_sets::{NameSet, add_names};
 use adj_sweep::steps::MarkedLoops;
 use adj_symbols::Checked;
 use adj_tree::{Head, Items, Memory, Name, Program, Unit, Units};
+use adj_weave_units::numbers::first_statements;
+use adj_weave_units::shadows::{shadowed, unmarked};
+use adj_weave_units::source::{add_all_flagged, made_names, source_names, unit_names, units_of};
 use std::alloc::Global;
 
 /// What is found of the units of a checked program before any is emitted, in their order: the names of their adjoints, the numbers of
@@ -90,7 +90,7 @@ fn tabulated(
 {
     let units = units_of(checked);
     let source = source_names(alloc, names, checked)?;
-    let adjoints = adjoint_names(alloc, units, &source)?;
+    let adjoints = made_names(alloc, units, b"_B", &source)?;
     let numbers = first_statements(alloc, units)?;
     let found = found_by_names(alloc, marked, units, names, head, loops)?;
     Ok(Table {

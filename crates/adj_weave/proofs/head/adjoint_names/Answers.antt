@@ -1,11 +1,11 @@
-use Rattle.std.proofs.Common.{◌≡◌, ◌++◌, [], ℕ, List, map, ap, ◌∙◌}
+use Rattle.std.proofs.Common.{◌≡◌, ◌++◌, [], ℕ, List, map, ap, ◌∙◌, codes}
 use Rattle.std.specs.Prelude.{flat_map}
 use Rattle.adj_tree.specs.View.{procedure_of, procedures_of}
 use Rattle.def_sweep.specs.Declared.{unit_name}
 use Rattle.adj_sets.specs.Sets.{all_added}
-use Rattle.adj_weave.specs.Orders.{adjoints_from}
-use Rattle.adj_weave.proofs.Facts.{units_apart}
-use Rattle.adj_weave.proofs.Ordered.{adjoint_list, all_joined}
+use Rattle.def_sweep.specs.Names.{named_list}
+use Rattle.adj_weave_units.proofs.Facts.{units_apart}
+use Rattle.adj_weave_units.proofs.Ordered.{made_list, all_joined}
 use Rattle.adj_weave.proofs.head.adjoint_names.Goals as goal
 
 pub returns : goal.returns
@@ -17,4 +17,4 @@ returns c =
     let names = c.as_slice.ensures.value ∙ c.in_ok-own.ensures.names ∙ ap (map unit_name) moved in
     let joined = λ (xss : List (List (List ℕ))). flat_map (λ (xs : List (List ℕ)). xs) xss in
     let source = c.in_ok-source.ensures.names ∙ (λ i. all_added [] (names i ++ joined (facts.variables i))) ∙ ap (λ xs. all_added [] (map unit_name ps ++ xs)) (all_joined ps) in
-    record { names = c.in_ok-names.ensures.names ∙ (λ i. adjoints_from (source i) (moved i)) ∙ adjoint_list ps (units_apart known facts) }
+    record { names = c.in_ok-names.ensures.names ∙ (λ i. named_list (codes "_B") (source i) (moved i)) ∙ made_list (codes "_B") ps (units_apart known facts) }

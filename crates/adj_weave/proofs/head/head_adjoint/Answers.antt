@@ -2,10 +2,10 @@ use Rattle.std.proofs.Common.{◌≡◌, ◌<◌, ◌+◌, length, sym, ◌∙�
 use Rattle.adj_tree.specs.View.{procedure_of, procedures_of}
 use Rattle.def_sweep.specs.MarkedAdjoint.{shadow_flags}
 use Rattle.adj_weave.specs.Marked.{unit_marks}
-use Rattle.adj_weave.proofs.Facts.{units_apart}
+use Rattle.adj_weave_units.proofs.Facts.{units_apart}
 use Rattle.adj_weave.proofs.Known.{has_fewer, knows_has, over_knows}
-use Rattle.adj_weave.proofs.Program.{unit_there}
-use Rattle.adj_weave.proofs.Places.{at_one}
+use Rattle.adj_weave_units.proofs.Standing.{unit_there}
+use Rattle.adj_weave_units.proofs.Places.{at_one}
 use Rattle.adj_weave.proofs.Headed.{at_slice, head_shadows}
 use Rattle.adj_weave.proofs.head.head_adjoint.Goals as goal
 

@@ -21,7 +21,8 @@ use Rattle.adj_weave.specs.Marked.{reads_in}
 use Rattle.adj_weave.specs.Shared.{sources, marks_for, reversed_for}
 use Rattle.adj_weave.proofs.Unsplit.{splits_nothing}
 use Rattle.adj_weave.proofs.Alike.{helpers_same, alike_body}
-use Rattle.adj_weave.proofs.Units.{helpers_different, shadowed_apart, arrays_are, body_same, unit_is}
+use Rattle.adj_weave.proofs.Units.{helpers_different, body_same, unit_is}
+use Rattle.adj_weave_units.proofs.Units.{shadowed_apart, arrays_are}
 use Rattle.adj_weave.proofs.unit.adjoint_unit.Goals as goal
 
 pub names-requires-clause-shadowed : goal.names-requires-clause-shadowed

@@ -5,11 +5,12 @@ use Rattle.def_sweep.specs.Declared.{unit_name, unit_at}
 use Rattle.def_sweep.specs.Program.{emitted_program_with}
 use Rattle.adj_sweep.specs.HelperSteps.{are_reversed}
 use Rattle.adj_weave.specs.Marked.{program_marks}
-use Rattle.adj_weave.specs.Orders.{flagged}
-use Rattle.adj_weave.proofs.Facts.{units_apart, in_form}
+use Rattle.adj_weave_units.specs.Calls.{flagged}
+use Rattle.adj_weave_units.proofs.Facts.{units_apart, in_form}
 use Rattle.adj_weave.proofs.Known.{over_knows}
 use Rattle.adj_weave.proofs.Unsplit.{splits_nothing}
-use Rattle.adj_weave.proofs.Program.{program_emitted, number_there, head_there, same_length, all_are}
+use Rattle.adj_weave.proofs.Program.{program_emitted, same_length, all_are}
+use Rattle.adj_weave_units.proofs.Standing.{number_there, head_there}
 use Rattle.adj_weave.proofs.weave.adjoint.Goals as goal
 
 pub tabulated-requires-clause-head : goal.tabulated-requires-clause-head

@@ -1,5 +1,5 @@
 use Rattle.std.proofs.Common.{◌++◌, length, ap, sym, ◌∙◌}
-use Rattle.adj_weave.specs.Orders.{flagged}
+use Rattle.adj_weave_units.specs.Calls.{flagged}
 use Rattle.adj_weave.proofs.weave.all_names.Goals as goal
 
 pub add_all_flagged-requires : goal.add_all_flagged-requires

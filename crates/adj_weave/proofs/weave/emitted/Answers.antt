@@ -1,4 +1,4 @@
-use Rattle.std.proofs.Common.{◌≡◌, ◌<◌, ◌+◌, ◌++◌, [], false, length, map, get_or, refl, sym, ap, subst, ◌∙◌, arith}
+use Rattle.std.proofs.Common.{◌≡◌, ◌<◌, ◌+◌, ◌++◌, [], false, length, map, get_or, refl, sym, subst, ◌∙◌, arith}
 use Rattle.adj_tree.specs.View.{procedure_of, code_of}
 use Rattle.adj_tree.specs.Code.{Procedure}
 use Rattle.def_names.specs.Variables.{variables}
@@ -9,13 +9,14 @@ use Rattle.adj_naming.proofs.Places.{get_or_any}
 use Rattle.adj_weave.specs.Shared.{sources, marks_for, reversed_for}
 use Rattle.adj_weave.specs.Woven.{head_of}
 use Rattle.adj_weave.specs.Alike.{AreAlike}
-use Rattle.adj_weave.proofs.Places.{find_at}
-use Rattle.adj_weave.proofs.Ordered.{unit_place}
-use Rattle.adj_weave.proofs.Facts.{units_apart, variables_each}
+use Rattle.adj_weave_units.proofs.Places.{find_at}
+use Rattle.adj_weave_units.proofs.Ordered.{unit_place}
+use Rattle.adj_weave_units.proofs.Facts.{units_apart, variables_each}
 use Rattle.adj_weave.proofs.Known.{has_fewer, knows_has, over_knows}
 use Rattle.adj_weave.proofs.UnitMarks.{marks_alike}
 use Rattle.adj_weave.proofs.Unsplit.{splits_nothing}
-use Rattle.adj_weave.proofs.Program.{told_at, told_number, told_flag, unit_there, emitted_on, reaches}
+use Rattle.adj_weave_units.proofs.Standing.{told_at, told_number, told_flag, unit_there, reaches}
+use Rattle.adj_weave.proofs.Program.{emitted_on}
 use Rattle.adj_weave.proofs.weave.emitted.Goals as goal
 
 pub variables-requires : goal.variables-requires

@@ -1,4 +1,4 @@
-use Rattle.std.proofs.Common.{◌≡◌, ◌<◌, ◌++◌, ◌∙◌, [], ℕ, List, length, map, ap, sym, subst}
+use Rattle.std.proofs.Common.{◌≡◌, ◌<◌, ◌++◌, ◌∙◌, [], ℕ, List, length, map, ap, sym, subst, codes}
 use Rattle.std.specs.Prelude.{flat_map}
 use Rattle.adj_tree.specs.Code.{Procedure}
 use Rattle.adj_tree.specs.View.{procedure_of, procedures_of}
@@ -8,8 +8,9 @@ use Rattle.def_sweep.specs.Program.{has_adjoint, is_carried_with}
 use Rattle.adj_sets.specs.Sets.{all_added}
 use Rattle.adj_sweep.specs.HelperSteps.{are_reversed}
 use Rattle.adj_weave.specs.Marked.{program_marks}
-use Rattle.adj_weave.specs.Orders.{adjoints_from, numbers_from}
-use Rattle.adj_weave.proofs.Ordered.{first_numbers, adjoint_list, all_joined}
+use Rattle.def_sweep.specs.Names.{named_list}
+use Rattle.adj_weave_units.specs.Calls.{numbers_from}
+use Rattle.adj_weave_units.proofs.Ordered.{first_numbers, made_list, all_joined}
 use Rattle.adj_weave.proofs.weave.tabulated.Goals as goal
 
 pub found_by_names-requires : goal.found_by_names-requires
@@ -34,7 +35,7 @@ returns c =
       table = λ h at.
           let there = ap (unit_at c.args.head) moved ∙ at in
           record {
-            adjoints = c.in_ok-adjoints.ensures.names ∙ (λ i. adjoints_from (source i) (moved i)) ∙ adjoint_list ps apart;
+            adjoints = c.in_ok-adjoints.ensures.names ∙ (λ i. named_list (codes "_B") (source i) (moved i)) ∙ made_list (codes "_B") ps apart;
             numbers = c.in_ok-numbers.ensures.numbers ∙ ap (numbers_from 0) moved ∙ first_numbers ps apart;
             adjointed = c.in_ok-found.ensures.adjointed h there ∙ ap (λ qs. map (λ (u : Procedure). has_adjoint m qs h u.name) qs) moved;
             carried = c.in_ok-found.ensures.carried h there ∙ ap (λ qs. map (λ (u : Procedure). is_carried_with (are_reversed c.args.loops) m qs h u.name) qs) moved;

@@ -1,5 +1,5 @@
 use Rattle.std.proofs.Common.{get_or, ap, sym, ◌∙◌}
-use Rattle.adj_weave.proofs.Places.{At}
+use Rattle.adj_weave_units.proofs.Places.{At}
 use Rattle.adj_weave.proofs.Flagged.{marks_found}
 use Rattle.adj_weave.proofs.marks.FoundMarks.of_unit.Goals as goal
 

@@ -7,8 +7,8 @@ use Rattle.adj_reach.specs.Edges.{flag}
 use Rattle.adj_flow.specs.Asked.{units_of, variables_of}
 use Rattle.adj_flow.specs.Nodes.{node_in}
 use Rattle.adj_flow.specs.Told.{flag_at}
-use Rattle.adj_weave.proofs.Places.{At}
-use Rattle.adj_weave.proofs.Flagged.{told_untaken, told_taken, unit_variables}
+use Rattle.adj_weave_units.proofs.Places.{At}
+use Rattle.adj_weave_units.proofs.Flagged.{told_untaken, told_taken, unit_variables}
 use Rattle.adj_weave.proofs.marks.FoundMarks.told.Goals as goal
 
 pub returns-then-not-flag_at : goal.returns-then-not-flag_at
