@@ -1,4 +1,4 @@
-//! Tests of `adj_weave` by its public calls: programs that are emitted by the marks of analyses.
+//! Tests of `adj_weave` and `adj_tangent` by their public calls: programs that are emitted by the marks of analyses.
 //!
 //! They stand in a crate of their own, since a crate with tests is proved twice.
 #![tactic(auto)]
@@ -7,3 +7,5 @@
 mod schedules;
 #[cfg(test)]
 mod spared;
+#[cfg(test)]
+mod tangents;

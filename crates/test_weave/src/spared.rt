@@ -5,7 +5,7 @@ ghost use Rattle.adj_tree.specs.View.{procedures_of};
 ghost use Rattle.def_text.specs.Written.{IsWritten};
 ghost use Rattle.def_names.specs.Fault.{run_rules};
 ghost use Rattle.law_emitted.specs.Checked.{IsChecked};
-ghost use Rattle.adj_weave.specs.Marked.{IsFlowOf};
+ghost use Rattle.adj_weave_units.specs.Flowing.{IsFlowOf};
 
 use adj_activity::{activity, flow};
 use adj_fixed::{Mode, statements};
@@ -21,7 +21,7 @@ use std::alloc::Global;
 use std::test::Fail;
 
 // The program of a text.
-fn read(alloc: Global, source: &[u8]) -> Result<Program, Fault>
+pub(crate) fn read(alloc: Global, source: &[u8]) -> Result<Program, Fault>
     ensures written { IfOk result (λ p. IsWritten (procedures_of p)) }
 {
     let stated = statements(alloc, source, Mode::Source)?;
@@ -30,7 +30,10 @@ fn read(alloc: Global, source: &[u8]) -> Result<Program, Fault>
 }
 
 // The variables of each unit.
-fn variables<'c>(alloc: Global, checked: &'c Checked) -> Result<Vec<&'c NameList>, Memory>
+pub(crate) fn variables<'c>(
+    alloc: Global,
+    checked: &'c Checked,
+) -> Result<Vec<&'c NameList>, Memory>
     ensures all { IfOk result (λ v. map (λ b. b.now) v.items ≡ checked.now.variables) }
 {
     let count = checked.program().units.as_slice().len();
@@ -42,7 +45,7 @@ fn variables<'c>(alloc: Global, checked: &'c Checked) -> Result<Vec<&'c NameList
 }
 
 // A flag for each digit.
-fn flags(alloc: Global, digits: &[u8]) -> Result<Flags, Memory> {
+pub(crate) fn flags(alloc: Global, digits: &[u8]) -> Result<Flags, Memory> {
     let mut flags = Vec::new(alloc);
     for digit in digits {
         flags.push(*digit == b'1')?;
