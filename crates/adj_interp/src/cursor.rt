@@ -1,14 +1,18 @@
 //! How far a run has come in a schedule.
 
-ghost use Rattle.std.specs.Prelude.{◌≡◌, ◌<◌, ◌≤◌, ◌^◌, ◌-◌, ◌==◌, ◌&&◌, drop, slice_get};
+ghost use Rattle.std.specs.Prelude.{◌≡◌, ◌<◌, ◌≤◌, ◌^◌, ◌-◌, ◌==◌, ◌&&◌, ◌+◌, ◌↔◌, ◌⊎◌, IsTrue, drop, slice_get};
 ghost use Rattle.adj_revolve.specs.Schedule.{schedule_of};
 ghost use Rattle.adj_interp.specs.Tallied.{Plan, planned};
 
 use adj_revolve::{Action, Schedule};
+use adj_revolve_count::action;
 use std::marker::Model;
 
-/// The actions of a schedule that come behind those that were given, seen as the schedule. An action that lies further
-/// back begins it anew.
+/// The most actions that are gone through to one of them.
+const NEAR: u64 = 64;
+
+/// The actions of a schedule that come behind those that were given, seen as the schedule. An action far from these is
+/// found without it.
 #[derive(Drop)]
 pub struct Cursor {
     steps: u64,
@@ -56,6 +60,13 @@ fn resume(rest: &mut Schedule, plan: (u64, u32), given: u64, number: u64) -> u64
     number - 1
 }
 
+// Whether few actions lie before the action of a number, where so many were given or from the start.
+fn is_near(given: u64, number: u64) -> bool
+    ensures { IsTrue result ↔ ((number ≤ 64) ⊎ ((given < number) × (number ≤ given + 64))) }
+{
+    number <= NEAR || given < number && number - given <= NEAR
+}
+
 impl Cursor {
     /// Before the first action.
     pub fn new(steps: u64, snapshots: u32) -> Cursor
@@ -85,6 +96,9 @@ impl Cursor {
         ensures same { self.new ≡ self.old }
         ensures action { result ≡ slice_get (planned self.old) (number - 1) }
     {
+        if !is_near(self.given, number) {
+            return action(self.steps, self.snapshots, number);
+        }
         let before = resume(
             &mut self.rest,
             (self.steps, self.snapshots),

@@ -17,7 +17,8 @@ use crate::machine::Machine;
 use crate::stop::Stop;
 use adj_interp_frame::Term;
 use adj_number::Number;
-use adj_revolve::{Action, Schedule};
+use adj_revolve::Action;
+use adj_revolve_count::count;
 use adj_tree::Trap;
 
 // A number of steps.
@@ -52,22 +53,6 @@ fn ordinal(number: i64) -> Result<u64, Trap>
         Ok(number) if number > 0 => Ok(number),
         _ => Err(Trap::Schedule),
     }
-}
-
-// How many actions a schedule has.
-fn count_of(steps: u64, snapshots: u32) -> u64
-    requires some { 0 < snapshots }
-    requires few { snapshots ≤ 64 }
-    requires within { steps ≤ 2 ^ 40 }
-    ensures count { result ≡ length (schedule_of 0 steps snapshots) }
-    ensures within { result ≤ 2 ^ 42 }
-{
-    let mut schedule = Schedule::new(steps, snapshots);
-    let mut count = 0;
-    'each: while let Some(_action) = schedule.next() {
-        count += 1;
-    }
-    count
 }
 
 // The number by which a program knows a kind of action.
@@ -234,8 +219,8 @@ impl<'a, N: Number> Machine<'a, N> {
             → Ends e (runtime_act (setting_at e) (count_actions (term_in self.old.frame.names.now steps.now) (term_in self.old.frame.names.now snapshots.now) (var_at self.old.frame.names.now variable)) line s self.old.left) result self.new }
     {
         let plan = self.plan(steps, snapshots, line)?;
-        let count = count_of(plan.0, plan.1);
-        self.turn(variable, count as i64);
+        let actions = count(plan.0, plan.1);
+        self.turn(variable, actions as i64);
         Ok(())
     }
 

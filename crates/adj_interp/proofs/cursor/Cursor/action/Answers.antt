@@ -21,3 +21,6 @@ returns-clause-action c =
     let list = schedule_of 0 p.steps p.snapshots in
     let got = taken (c.args.number - 1) list c.skip.new.schedule c.next.new.self c.next.result (c.skip.ensures ∙ c.resume-before.ensures) c.next.ensures in
     got.1 ∙ ap (λ (z : Plan). slice_get (planned z) (c.args.number - 1)) c.self.view_is
+
+pub returns-then-not-is_near-clause-action : goal.returns-then-not-is_near-clause-action
+returns-then-not-is_near-clause-action c = c.action.ensures ∙ ap (λ (z : Plan). slice_get (planned z) (c.args.number - 1)) c.self.view_is

@@ -1,0 +1,5 @@
+-- the lemmas of the crate
+mod Counts
+mod Ends
+mod Returns
+mod RowLemmas
