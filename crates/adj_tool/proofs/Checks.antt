@@ -48,7 +48,9 @@ use Rattle.adj_tool_check.specs.Emitted as checking
 use Rattle.adj_tool_check.specs.Emitted.{IsRunnable, read_back}
 use Rattle.adj_tool_check.specs.Agreeing.{AreAdjoint, Agrees, CheckAgrees, CheckTraps}
 use Rattle.adj_tool_check.proofs.Readings.{alike_read}
-use Rattle.adj_tool.specs.Check.{AreSides, IsReadBack, RunsAdjoint, IsChecked, IsCompared}
+use Rattle.adj_tool.specs.Check.{AreSides, IsReadBack, IsChecked, IsCompared}
+use Rattle.adj_tool.specs.Headline.{RunsAdjoint}
+use Rattle.adj_tool.proofs.Runs.{runs_adjoint}
 use Rattle.adj_tool.specs.Fitting.{most_numbered, kernel_fits}
 use Rattle.adj_tool.specs.Headline.{IsUnit, flags_of}
 use Rattle.adj_tool.specs.Planned.{IsKnownFor, AreExact}
@@ -79,19 +81,7 @@ module _ (ps : List Procedure) (name : List ℕ) (h : Head) (accepted : IsAccept
 
     -- and so are its looks and what its run takes
     pub runs_for : (others : List Procedure) → unlined qs ≡ unlined others → RunsAdjoint m ps name h.vars h.outvars others
-    runs_for others same =
-        let x = known.emitted in
-        let like = ap unlined (sym x.emitted) ∙ same in
-        let bound : (weight calls : ℕ) → EachUnit (λ u. WeighsAtMost weight u.body) (kernel_of ps) → CallsWithin (kernel_of ps) name calls → KernelSpendsAtMost (lines_by ps m) m ps name weight calls others =
-        λ weight calls weighs few. planned.kernel_spends ps accepted apart weight weighs name u found calls few h.vars h.outvars x.activity x.liveness x.saved x.held x.analysed others like in
-        record {
-          adjoins = adjoins others same;
-          own_names = own_names ps accepted m;
-          shape = accepted_has_shape true ps accepted name u found h.vars h.outvars x.activity x.liveness x.saved x.held x.analysed others like;
-          spends = λ none weight calls weighs few. planned.reversed_spends ps accepted none weight weighs name u found calls few h.vars h.outvars x.activity x.liveness x.saved x.held x.analysed others like;
-          spends_reversed = bound;
-          spends_within = λ weight count calls weighs have few. round_bound_is_kept (lines_by ps m) m ps name weight count calls others (bound weight calls weighs few);
-        }
+    runs_for others same = let x = known.emitted in runs_adjoint ps accepted apart name u found h.vars h.outvars x.activity x.liveness x.saved x.held x.analysed others (ap unlined (sym x.emitted) ∙ same)
 
     -- the shadows of the head are those of what it becomes
     pub shadows_are : (v : Procedure) → find_unit ps name ≡ Some v → shadowed ≡ shadow_flags (m.shadowed name) v.dummies

@@ -30,6 +30,7 @@ use Rattle.adj_tool.specs.declared.task.Wanted.TheVariants as wanted
 -- the answer that is given for an accepted program
 given_is_done : (w : Wanted) (ps : List Procedure) (name : List ℕ) (h : Head) (a : Answer) → IsGiven w ps name h a → a.status ≡ 0
 given_is_done wanted.Adjoint ps name h a g = ap (λ (z : Answer). z.status) g.text
+given_is_done wanted.Tangent ps name h a g = ap (λ (z : Answer). z.status) g.text
 given_is_done wanted.Plan ps name h a g = ap (λ (z : Answer). z.status) g.text
 
 -- three runs that are done

@@ -1,4 +1,4 @@
--- What is emitted for a kernel by the marks of its plan.
+-- What is emitted for a kernel by the marks of its plan, and by what carries a tangent in it.
 use Rattle.std.proofs.Common.{◌≡◌, ℕ, Bool, true, List, Some, refl, sym, ap, ◌∙◌, subst}
 use Rattle.std.specs.List.{slice_get}
 use Rattle.adj_tree.specs.Code.{Procedure}
@@ -8,15 +8,18 @@ use Rattle.def_names.specs.Fault.{Rules}
 use Rattle.def_sweep.specs.MarkedAdjoint.{shadow_flags}
 use Rattle.def_sweep.specs.Names.{adjoint_name}
 use Rattle.def_sweep.specs.Program.{emitted_program_with}
+use Rattle.def_flow.specs.Carried.{IsCarrying, carried_by}
+use Rattle.def_tangent.specs.Program.{tangent_program}
 use Rattle.law_emitted.specs.Checked.{IsChecked}
 use Rattle.law_emitted.specs.Shadowed.{AllHaveShadows}
 use Rattle.adj_flow.specs.Asked.{problem_of, units_of}
 use Rattle.adj_flow.specs.declared.units.Flow.{Flow}
 use Rattle.adj_flow.specs.Marked.{activity_of, liveness_of, saved_of}
+use Rattle.adj_activity.specs.Carried.{carried_of, AreCarried}
 use Rattle.adj_plan.specs.Asked.{IsPlan}
 use Rattle.adj_weave.specs.Marked.{marks_told}
 use Rattle.law_analysed.proofs.Lending.{exact_shadows}
-use Rattle.adj_tool.specs.Planned.{IsEmittedFor, IsKnownFor}
+use Rattle.adj_tool.specs.Planned.{problem_for, IsEmittedFor, IsKnownFor, IsTangentEmitted}
 
 module _ (us : List Procedure) (f : Flow) (h : Head) (t : flags.Marks) (same : units_of f ≡ us) (x : IsPlan f (problem_of f h) t) where
   -- the shadows that the marks use are there
@@ -48,3 +51,13 @@ module _ (us : List Procedure) (f : Flow) (h : Head) (t : flags.Marks) (same : u
         named = λ u at. named u (ap (λ vs. slice_get vs h.unit) (sym same) ∙ at) ∙ ap (λ vs. adjoint_name vs u) (sym same);
         shadows = λ u at. shadows u (ap (λ vs. slice_get vs h.unit) (sym same) ∙ at);
       })
+
+-- where flags tell what carries a tangent, what is emitted by them is what exact analyses have emitted
+pub tangent_for_units : (us : List Procedure) (f : Flow) (h : Head) (flags : List Bool) → units_of f ≡ us → AreCarried f h flags → (given : List Bool) → given ≡ flags → (qs : List Procedure) →
+    qs ≡ tangent_program (carried_by us (carried_of f given)) us h.unit h.vars → IsTangentEmitted us h qs
+tangent_for_units us f h flags same x given is qs e = record {
+  varied = x.varied;
+  carried = carried_of f flags;
+  exact = subst (λ vs. IsCarrying (problem_for vs h) x.varied (carried_of f flags)) same x.carrying;
+  emitted = e ∙ ap (λ fs. tangent_program (carried_by us (carried_of f fs)) us h.unit h.vars) is;
+}

@@ -18,6 +18,7 @@ use Rattle.adj_tree.specs.declared.fault.Refusal.{Refusal}
 use Rattle.adj_tree.specs.Lines.{unlined}
 use Rattle.law_text.proofs.TextUnlined.{one_text}
 use Rattle.def_names.specs.Fault.{run_rules, first_of}
+use Rattle.def_names.specs.Check.{IsSound}
 use Rattle.def_names.specs.HeadFaults.{first_head_fault, faults_of_head, flags_found, unit_number, head_of}
 use Rattle.def_sweep.specs.Marking.{ProgramMarks, SplitsNothing}
 use Rattle.def_names.specs.Variables.{variables}
@@ -38,6 +39,14 @@ use Rattle.law_emitted.proofs.Kernels.{kernel_checked, head_within}
 use Rattle.law_analysed.proofs.Lending.{exact_shadows}
 use Rattle.def_text.specs.OrTooMany.{OrTooMany}
 use Rattle.law_limits.specs.Limits.{EmittedIsRunnableWith}
+use Rattle.law_names.proofs.Lines.{sound_lines}
+use Rattle.def_flow.specs.Carried.{IsCarrying, carried_by}
+use Rattle.def_tangent.specs.IsTangent.{IsTangentOfSource}
+use Rattle.def_tangent.specs.Program.{tangent_for}
+use Rattle.law_tangent_carried.specs.Limits.{TangentIsRunnable}
+use Rattle.law_tangent_carried.proofs.Written.{tangent_is_written}
+use Rattle.law_tangent_carried.proofs.SoundTexts.{tangent_is_sound}
+use Rattle.law_tangent_carried.proofs.Weighing.{accepted_by_weight}
 use Rattle.def_planned.specs.Planned.{kernel_problem, lines_by, reversed_for, marks_by}
 use Rattle.law_planned.proofs.Planned as planned
 use Rattle.def_adjoint.specs.Calls.{CallsWithin}
@@ -47,16 +56,17 @@ use Rattle.law_planned.proofs.OwnNames.{own_names}
 use Rattle.def_adjoint.specs.KernelShape.{HasKernelShape}
 use Rattle.def_adjoint.specs.Spends.{SpendsAtMost}
 use Rattle.law_shape.proofs.Accepted.{accepted_has_shape}
-use Rattle.adj_tool.specs.Planned.{IsEmittedFor, AreExact, IsAdjointText, IsTextFor}
+use Rattle.adj_tool.specs.Planned.{IsEmittedFor, AreExact, IsTangentEmitted, IsTextFor}
 use Rattle.adj_tool.specs.declared.task.Wanted.{Wanted}
 use Rattle.adj_tool.specs.declared.task.Wanted.TheVariants as wanted
 use Rattle.adj_tool.specs.Arguments.{Request}
 use Rattle.adj_tool_answer.specs.Answer.{Answer}
 use Rattle.adj_tool_answer.specs.Laws.{ProgramTold}
 use Rattle.adj_parse.specs.Trees.{program_of}
+use Rattle.adj_tool.proofs.Runs.{runs_adjoint}
 use Rattle.adj_tool.specs.Fitting.{most_numbered, is_numbered, kernel_fits}
-use Rattle.adj_tool.specs.Answer.{most_bytes, IsWritten, IsGiven}
-use Rattle.adj_tool.specs.Headline.{IsUnit, ReadsWritten, WritesAdjoint, flags_of}
+use Rattle.adj_tool.specs.Answer.{most_bytes, IsWritten, IsTangentGiven, IsGiven}
+use Rattle.adj_tool.specs.Headline.{IsUnit, Rewrites, RunsAdjoint, ReadsFor, ReadsTangent, ReadsWritten, Writes, WritesAdjoint, WritesTangent, flags_of}
 
 -- where the head has no fault, it is there
 pub head_there : (ps : List Procedure) (name : List ℕ) (vars outvars : List (List ℕ)) → first_head_fault ps name vars outvars ≡ None → IsUnit ps name
@@ -112,62 +122,76 @@ module _ (r : Request) (ps : List Procedure) (h : Head) (sound : first_head_faul
   there : IsUnit ps r.head
   there = head_there ps r.head r.vars r.outvars sound
 
-  -- in Run mode the text reads as that, up to line numbers, or has too many statements
-  head_runs : IsAccepted ps → EmittedIsRunnableWith true → (text : List ℕ) → (back : ReadsWritten ps r.head h text) → (bytes : List ℕ) → program_of Source bytes ≡ Ok ps →
-      OrTooMany (λ found. unlined found ≡ unlined back.reads.0) (program_of Run text)
-  head_runs accepted runnable text back bytes given =
-      let x = back.exact in
-      let few : EachUnit (λ v. length (variables v) ≤ most_numbered) (kernel_of ps) = few_variables (kernel_of ps) (fits_widest (kernel_of ps) back.fits) in
-      let shadows : AllHaveShadows back.marks (kernel_of ps) (kernel_of ps) =
-      subst (λ m. AllHaveShadows m (kernel_of ps) (kernel_of ps)) (sym x.are) (exact_shadows run_rules (kernel_problem ps r.head h.vars h.outvars) (kernel_checked ps accepted) x.activity x.analysed.active (marks_by ps x.activity x.liveness x.saved x.held) refl (λ n. refl)) in
-      let unsplit : SplitsNothing back.marks = subst SplitsNothing (sym x.are) (λ i. refl) in
-      let runs = runnable bytes ps given accepted few back.marks unsplit shadows (unit_number (kernel_of ps) r.head) h.vars h.outvars in
-      subst (λ (z : List ℕ). OrTooMany (λ found. unlined found ≡ unlined back.reads.0) (program_of Run z)) (sym back.is_text)
-      (other_lines (reversed_for ps r.head h.vars h.outvars back.marks) back.reads.0 (sym back.reads.2) (program_of Run (text_of (reversed_for ps r.head h.vars h.outvars back.marks))) runs)
+  vars_is : h.vars ≡ flags_of r.vars there.unit.dummies
+  vars_is = ap (λ (z : Head). z.vars) is ∙ ap (λ o. flags_found o r.vars) there.found
 
-  -- the program that the text is, which has other lines than the one that was printed, is an adjoint of the text that reads as the program
+  outvars_is : h.outvars ≡ flags_of r.outvars there.unit.dummies
+  outvars_is = ap (λ (z : Head). z.outvars) is ∙ ap (λ o. flags_found o r.outvars) there.found
+
+  -- the text of what is emitted is a program, which has other lines than the one that was printed
+  rewrites : (qs : List Procedure) (text : List ℕ) → text ≡ text_of qs → (back : ReadsAs text qs) → IsSound run_rules back.0 → OrTooMany (λ found. unlined found ≡ unlined qs) (program_of Run (text_of qs)) →
+      ProgramTold → (bytes : List ℕ) → Reads bytes ps → Rewrites r bytes text
+  rewrites qs text is_text back sound runs told bytes reads = record {
+    source = ps;
+    reads = reads;
+    unit = there.unit;
+    is_head = there.found;
+    emitted = back.0;
+    reads_back = back.1;
+    text = is_text ∙ one_text qs back.0 (sym back.2);
+    runs = record {
+      found = program_of Run text;
+      is = told Run text;
+      such = subst (λ (z : List ℕ). OrTooMany (λ found. unlined found ≡ unlined back.0) (program_of Run z)) (sym is_text) (other_lines qs back.0 (sym back.2) (program_of Run (text_of qs)) runs);
+    };
+    sound = sound;
+  }
+
+  -- the program that the text is, is an adjoint of the text that reads as the program
   pub head_adjoins : IsAccepted ps → EmittedIsRunnableWith true → ProgramTold → (text : List ℕ) → ReadsWritten ps r.head h text → (bytes : List ℕ) → length bytes ≤ most_bytes → Reads bytes ps → program_of Source bytes ≡ Ok ps → WritesAdjoint r bytes text
+  unfolding rewrites
   head_adjoins accepted runnable told text back bytes few reads given =
       let x = back.exact in
       let m = marks_by ps x.activity x.liveness x.saved x.held in
+      let qs = reversed_for ps r.head h.vars h.outvars back.marks in
       let same : unlined (reversed_for ps r.head h.vars h.outvars m) ≡ unlined back.reads.0 = ap (λ n. unlined (reversed_for ps r.head h.vars h.outvars n)) (sym x.are) ∙ sym back.reads.2 in
-      let bound : (weight calls : ℕ) → EachUnit (λ u. WeighsAtMost weight u.body) (kernel_of ps) → CallsWithin (kernel_of ps) r.head calls → KernelSpendsAtMost (lines_by ps back.marks) back.marks ps r.head weight calls back.reads.0 =
-      λ weight calls weighs most.
-      subst (λ n. KernelSpendsAtMost (lines_by ps n) n ps r.head weight calls back.reads.0) (sym x.are)
-      (planned.kernel_spends ps accepted (lines_apart bytes ps few reads) weight weighs r.head there.unit there.found calls most h.vars h.outvars x.activity x.liveness x.saved x.held x.analysed back.reads.0 same) in
+      let narrow : EachUnit (λ v. length (variables v) ≤ most_numbered) (kernel_of ps) = few_variables (kernel_of ps) (fits_widest (kernel_of ps) back.fits) in
+      let shadows : AllHaveShadows back.marks (kernel_of ps) (kernel_of ps) =
+      subst (λ n. AllHaveShadows n (kernel_of ps) (kernel_of ps)) (sym x.are) (exact_shadows run_rules (kernel_problem ps r.head h.vars h.outvars) (kernel_checked ps accepted) x.activity x.analysed.active m refl (λ n. refl)) in
+      let unsplit : SplitsNothing back.marks = subst SplitsNothing (sym x.are) (λ i. refl) in
+      let runs : OrTooMany (λ found. unlined found ≡ unlined qs) (program_of Run (text_of qs)) = runnable bytes ps given accepted narrow back.marks unsplit shadows (unit_number (kernel_of ps) r.head) h.vars h.outvars in
       record {
-        source = ps;
-        reads = reads;
-        unit = there.unit;
-        is_head = there.found;
-        adjoint = back.reads.0;
-        reads_back = back.reads.1;
-        runs = record { found = program_of Run text; is = told Run text; such = head_runs accepted runnable text back bytes given };
-        text = back.is_text ∙ one_text (reversed_for ps r.head h.vars h.outvars back.marks) back.reads.0 (sym back.reads.2);
-        sound = planned.reversed_sound ps accepted r.head h.vars h.outvars x.activity x.liveness x.saved x.held x.analysed back.reads.0 same;
+        programs = rewrites qs text back.is_text back.reads (planned.reversed_sound ps accepted r.head h.vars h.outvars x.activity x.liveness x.saved x.held x.analysed back.reads.0 same) runs told bytes reads;
         marks = back.marks;
         exact = subst (λ z. AreExact ps r.head z back.marks) is x;
-        is_adjoint =
-            subst (λ n. IsAdjointOf (lines_by ps n) n ps r.head (flags_of r.vars there.unit.dummies) (flags_of r.outvars there.unit.dummies) back.reads.0) (sym x.are)
-            (subst (λ v. IsAdjointOf (lines_by ps m) m ps r.head v (flags_of r.outvars there.unit.dummies) back.reads.0) vars_is (subst (λ v. IsAdjointOf (lines_by ps m) m ps r.head h.vars v back.reads.0) outvars_is
-            (planned.is_reversed ps accepted (lines_apart bytes ps few reads) r.head there.unit there.found h.vars h.outvars x.activity x.liveness x.saved x.held x.analysed back.reads.0 same)));
-        own_names = own_names ps accepted back.marks;
-        shape =
-            subst (λ n. HasKernelShape true n ps r.head (flags_of r.vars there.unit.dummies) (flags_of r.outvars there.unit.dummies) back.reads.0) (sym x.are)
-            (subst (λ v. HasKernelShape true m ps r.head v (flags_of r.outvars there.unit.dummies) back.reads.0) vars_is (subst (λ v. HasKernelShape true m ps r.head h.vars v back.reads.0) outvars_is
-            (accepted_has_shape true ps accepted r.head there.unit there.found h.vars h.outvars x.activity x.liveness x.saved x.held x.analysed back.reads.0 same)));
-        spends = λ none weight calls weighs most.
-            subst (λ n. SpendsAtMost n ps r.head weight calls back.reads.0) (sym x.are)
-            (planned.reversed_spends ps accepted none weight weighs r.head there.unit there.found calls most h.vars h.outvars x.activity x.liveness x.saved x.held x.analysed back.reads.0 same);
-        spends_reversed = bound;
-        spends_within = λ weight count calls weighs have most. round_bound_is_kept (lines_by ps back.marks) back.marks ps r.head weight count calls back.reads.0 (bound weight calls weighs most);
+        adjoins =
+            subst (λ n. RunsAdjoint n ps r.head (flags_of r.vars there.unit.dummies) (flags_of r.outvars there.unit.dummies) back.reads.0) (sym x.are)
+            (subst (λ v. RunsAdjoint m ps r.head v (flags_of r.outvars there.unit.dummies) back.reads.0) vars_is (subst (λ v. RunsAdjoint m ps r.head h.vars v back.reads.0) outvars_is
+            (runs_adjoint ps accepted (lines_apart bytes ps few reads) r.head there.unit there.found h.vars h.outvars x.activity x.liveness x.saved x.held x.analysed back.reads.0 same)));
       }
-    where
-      vars_is : h.vars ≡ flags_of r.vars there.unit.dummies
-      vars_is = ap (λ (z : Head). z.vars) is ∙ ap (λ o. flags_found o r.vars) there.found
 
-      outvars_is : h.outvars ≡ flags_of r.outvars there.unit.dummies
-      outvars_is = ap (λ (z : Head). z.outvars) is ∙ ap (λ o. flags_found o r.outvars) there.found
+  -- the program that the text is, is the tangent of the text that reads as the program
+  pub head_tangents : IsAccepted ps → TangentIsRunnable → ProgramTold → (text : List ℕ) → ReadsTangent ps r.head h text → (bytes : List ℕ) → Reads bytes ps → program_of Source bytes ≡ Ok ps → WritesTangent r bytes text
+  unfolding rewrites there
+  head_tangents accepted runnable told text back bytes reads given =
+      let k = kernel_problem ps r.head h.vars h.outvars in
+      let qs = tangent_for (carried_by (kernel_of ps) back.carried) ps r.head h.vars in
+      let narrow : EachUnit (λ v. length (variables v) ≤ most_numbered) (kernel_of ps) = few_variables (kernel_of ps) (fits_widest (kernel_of ps) back.fits) in
+      let runs : OrTooMany (λ found. unlined found ≡ unlined qs) (program_of Run (text_of qs)) = runnable bytes ps given accepted narrow k refl back.varied back.carried back.exact in
+      let sound : IsSound run_rules back.reads.0 = sound_lines run_rules qs back.reads.0 (sym back.reads.2) (tangent_is_sound run_rules k (kernel_checked ps accepted) (omega arith) back.varied back.carried back.exact) in
+      record {
+        programs = rewrites qs text back.is_text back.reads sound runs told bytes reads;
+        varied = back.varied;
+        carried = back.carried;
+        exact = subst (λ v. IsCarrying (kernel_problem ps r.head v (flags_of r.outvars there.unit.dummies)) back.varied back.carried) vars_is (subst (λ v. IsCarrying (kernel_problem ps r.head h.vars v) back.varied back.carried) outvars_is back.exact);
+        is_tangent = subst (λ v. IsTangentOfSource (carried_by (kernel_of ps) back.carried) ps r.head v back.reads.0) vars_is (accepted_by_weight ps accepted r.head there.unit there.found h.vars h.outvars back.varied back.carried back.exact back.reads.0 (sym back.reads.2));
+      }
+
+  -- the text that was wanted is what it is to be
+  pub head_transforms : IsAccepted ps → EmittedIsRunnableWith true → TangentIsRunnable → ProgramTold → (w : Wanted) (text : List ℕ) → ReadsFor w ps r.head h text → (bytes : List ℕ) → length bytes ≤ most_bytes → Reads bytes ps → program_of Source bytes ≡ Ok ps → Writes w r bytes text
+  head_transforms accepted runnable tangent_runnable told wanted.Adjoint text back bytes few reads given = head_adjoins accepted runnable told text back bytes few reads given
+  head_transforms accepted runnable tangent_runnable told wanted.Tangent text back bytes few reads given = head_tangents accepted tangent_runnable told text back bytes reads given
+  head_transforms accepted runnable tangent_runnable told wanted.Plan text back bytes few reads given = tt
 
 -- ---- the kernel as code gives it
 
@@ -203,6 +227,16 @@ module _ (ps : List Procedure) (name : List ℕ) (h : Head) (accepted : IsAccept
       let written : texts.IsWritten qs = subst texts.IsWritten (sym x.emitted) (planned.reversed_written ps accepted name h.vars h.outvars x.activity x.liveness x.saved x.held x.analysed) in
       record { fits = fits; marks = m; exact = exact_marks; is_text = text ∙ ap text_of x.emitted; reads = subst (λ z. ReadsAs bytes z) x.emitted (reads written) }
 
+-- a tangent is written, so that its text reads as it
+module _ (ps : List Procedure) (name : List ℕ) (h : Head) (accepted : IsAccepted ps) (qs : List Procedure) (x : IsTangentEmitted (kernel_of ps) (record { unit = unit_number (kernel_of ps) name; vars = h.vars; outvars = h.outvars }) qs) where
+  pub tangent_text : (a : Answer) → a.status ≡ 0 → a.text ≡ text_of qs → IsTangentGiven ps name h a
+  tangent_text a done text = record { varied = x.varied; carried = x.carried; exact = x.exact; text = (λ i. record { status = done i; text = (text ∙ ap text_of x.emitted) i }) }
+
+  pub tangent_reads : kernel_fits (kernel_of ps) ≡ true → (bytes : List ℕ) → bytes ≡ text_of qs → (texts.IsWritten qs → ReadsAs bytes qs) → ReadsTangent ps name h bytes
+  tangent_reads fits bytes text reads =
+      let written : texts.IsWritten qs = subst texts.IsWritten (sym x.emitted) (tangent_is_written run_rules (kernel_problem ps name h.vars h.outvars) (kernel_checked ps accepted) x.varied x.carried x.exact) in
+      record { fits = fits; varied = x.varied; carried = x.carried; exact = x.exact; is_text = text ∙ ap text_of x.emitted; reads = subst (λ z. ReadsAs bytes z) x.emitted (reads written) }
+
 -- ---- the text that is wanted
 
 module _ (ps : List Procedure) (name : List ℕ) (h : Head) (accepted : IsAccepted ps) where
@@ -212,9 +246,10 @@ module _ (ps : List Procedure) (name : List ℕ) (h : Head) (accepted : IsAccept
 
   pub text_given : (w : Wanted) (text : List ℕ) → IsTextFor w (kernel_of ps) own text → (a : Answer) → a.status ≡ 0 → a.text ≡ text → IsGiven w ps name h a
   text_given wanted.Adjoint text x a done is = emitted_text ps name h accepted x.program x.emitted a done (is ∙ x.is_text)
+  text_given wanted.Tangent text x a done is = tangent_text ps name h accepted x.program x.emitted a done (is ∙ x.is_text)
   text_given wanted.Plan text x a done is = record { said = x.said; takes = x.takes; tells = x.tells; text = (λ i. record { status = done i; text = (is ∙ x.is_text) i }) }
 
-  pub text_reads : kernel_fits (kernel_of ps) ≡ true → (w : Wanted) → w ≡ wanted.Adjoint → (text : List ℕ) → IsTextFor w (kernel_of ps) own text → ReadsWritten ps name h text
-  text_reads fits w e text x =
-      let y : IsAdjointText (kernel_of ps) own text = subst (λ z. IsTextFor z (kernel_of ps) own text) e x in
-      emitted_reads ps name h accepted y.program y.emitted fits text y.is_text y.reads
+  pub text_reads : kernel_fits (kernel_of ps) ≡ true → (w : Wanted) → (text : List ℕ) → IsTextFor w (kernel_of ps) own text → ReadsFor w ps name h text
+  text_reads fits wanted.Adjoint text x = emitted_reads ps name h accepted x.program x.emitted fits text x.is_text x.reads
+  text_reads fits wanted.Tangent text x = tangent_reads ps name h accepted x.program x.emitted fits text x.is_text x.reads
+  text_reads fits wanted.Plan text x = tt

@@ -15,6 +15,9 @@ use Rattle.def_sweep.specs.Marking.{ProgramMarks}
 use Rattle.adj_plan.specs.Lines.{plan_lines, TellsPlan}
 use Rattle.adj_plan.specs.declared.lines.Said.{Said}
 use Rattle.def_planned.specs.Planned.{kernel_problem, reversed_for}
+use Rattle.def_names.specs.Numbers.{Vars}
+use Rattle.def_flow.specs.Carried.{IsCarrying, carried_by}
+use Rattle.def_tangent.specs.Program.{tangent_for}
 use Rattle.adj_revolve.specs.declared.machine.Action.{Action}
 use Rattle.adj_revolve.specs.declared.machine.Action.TheVariants.{Store, Advance, Turn, Keep, Drop}
 use Rattle.adj_revolve.specs.Schedule.{schedule_of}
@@ -42,7 +45,7 @@ schedule_answer steps snapshots = record {
   text = flat_map action_line (schedule_of 0 steps snapshots) ++ line_of_one (codes "ADVANCES ") (least_cost steps snapshots);
 }
 
--- ---- adjoints and plans
+-- ---- adjoints, tangents and plans
 
 -- the most bytes of an input
 abbrev pub most_bytes : ℕ
@@ -59,6 +62,13 @@ pub record IsWritten (ps : List Procedure) (name : List ℕ) (h : Head) (a : Ans
   pub exact : AreExact ps name h marks
   pub text : a ≡ record { status = 0; text = text_of (reversed_for ps name h.vars h.outvars marks) }
 
+-- the text of the tangent of a program for the unit of a name as its head: what is emitted for the kernel by what carries a tangent, which exact analyses say
+pub record IsTangentGiven (ps : List Procedure) (name : List ℕ) (h : Head) (a : Answer) : Type 0 where
+  pub varied : ℕ → Vars
+  pub carried : ℕ → Vars
+  pub exact : IsCarrying (kernel_problem ps name h.vars h.outvars) varied carried
+  pub text : a ≡ record { status = 0; text = text_of (tangent_for (carried_by (kernel_of ps) carried) ps name h.vars) }
+
 -- the plan of a program for the unit of a name as its head: a line for each statement of the kernel, with the letters that exact analyses say
 pub record IsPlanned (ps : List Procedure) (name : List ℕ) (h : Head) (a : Answer) : Type 0 where
   pub said : ℕ → ℕ → Said
@@ -68,6 +78,7 @@ pub record IsPlanned (ps : List Procedure) (name : List ℕ) (h : Head) (a : Ans
 
 abbrev pub IsGiven : Wanted → List Procedure → List ℕ → Head → Answer → Type 0
 IsGiven wanted.Adjoint ps name h a = IsWritten ps name h a
+IsGiven wanted.Tangent ps name h a = IsTangentGiven ps name h a
 IsGiven wanted.Plan ps name h a = IsPlanned ps name h a
 
 -- the answer for a program and its head, where the kernel fits, or not
@@ -102,6 +113,6 @@ abbrev pub AnswersSized : Bool → Wanted → Request → List ℕ → Answer �
 AnswersSized true w r bytes a = a ≡ too_long most_bytes
 AnswersSized false w r bytes a = TextIs Source (λ found. AnswersText w r found a) bytes
 
--- the answer of `adjoint`, or of `plan`
+-- the answer of `adjoint`, of `tangent`, or of `plan`
 abbrev pub AnswersWanted : Wanted → Request → List ℕ → Answer → Type 0
 AnswersWanted w r bytes a = AnswersSized (nat_lt most_bytes (length bytes)) w r bytes a

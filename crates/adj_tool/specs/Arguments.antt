@@ -79,6 +79,7 @@ pub record Request : Type 0 where
 -- the commands
 pub data Command : Type 0 where
   Adjoint : Request → Command
+  Tangent : Request → Command
   Plan : Request → Command
   Run : Asked → Command
   -- a run, and the independents and the dependents of its head
@@ -108,6 +109,10 @@ request_asked rows =
 -- adjoint with these
 abbrev pub adjoint_asked : List Row → Option Command
 adjoint_asked rows = option_map Adjoint (request_asked rows)
+
+-- tangent with these
+abbrev pub tangent_asked : List Row → Option Command
+tangent_asked rows = option_map Tangent (request_asked rows)
 
 -- plan with these
 abbrev pub plan_asked : List Row → Option Command
@@ -184,13 +189,14 @@ sample_asked rows = if lacks_options rows then option_and_then number_asked (all
 abbrev pub command_asked : Text → List Row → Option Command
 command_asked name rows =
     if bytes_eq name (codes "adjoint") then adjoint_asked rows
+    else (if bytes_eq name (codes "tangent") then tangent_asked rows
     else (if bytes_eq name (codes "plan") then plan_asked rows
     else (if bytes_eq name (codes "run") then run_asked rows
     else (if bytes_eq name (codes "check") then check_asked rows
     else (if bytes_eq name (codes "jacobian") then jacobian_asked rows
     else (if bytes_eq name (codes "schedule") then schedule_asked rows
     else (if bytes_eq name (codes "sample") then sample_asked rows
-    else None))))))
+    else None)))))))
 
 abbrev pub asked : List Row → Option Command
 asked rows = option_and_then (λ name. command_asked name rows) (first_of (codes "command") rows)

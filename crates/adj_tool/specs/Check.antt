@@ -13,16 +13,8 @@ use Rattle.def_names.specs.HeadFaults.{first_head_fault, head_of}
 use Rattle.def_sweep.specs.MarkedAdjoint.{shadow_flags}
 use Rattle.def_sweep.specs.Marking.{ProgramMarks}
 use Rattle.def_sweep.specs.Names.{adjoint_name}
-use Rattle.def_kernel.specs.Kernel.{EachUnit}
 use Rattle.def_kernel.specs.Stepped.{kernel_of}
-use Rattle.def_kernel.specs.Weights.{WeighsAtMost}
-use Rattle.def_adjoint.specs.CallsAtMost.{CallsAtMost}
-use Rattle.def_adjoint.specs.Calls.{CallsWithin}
-use Rattle.def_adjoint.specs.Spends.{SpendsAtMost}
-use Rattle.def_adjoint.specs.KernelSpends.{HaveVariables, KernelSpendsAtMost, KernelSpendsWithin}
-use Rattle.def_adjoint.specs.Adjoint.{HaveOwnNames, IsAdjointOf}
-use Rattle.def_planned.specs.Planned.{HasNoMarks, lines_by, reversed_for}
-use Rattle.def_adjoint.specs.KernelShape.{HasKernelShape}
+use Rattle.def_planned.specs.Planned.{lines_by, reversed_for}
 use Rattle.adj_tool_answer.specs.Answer.{Answer, refused, too_long}
 use Rattle.adj_tool_answer.specs.Programs.{TextIs}
 use Rattle.adj_tool_answer.specs.Endings.{Asked}
@@ -32,7 +24,7 @@ use Rattle.adj_tool_check.specs.Agreeing.{TrapsAlone, Agrees}
 use Rattle.adj_tool.specs.Planned.{AreExact}
 use Rattle.adj_tool.specs.Fitting.{kernel_fits}
 use Rattle.adj_tool.specs.Answer.{most_bytes, too_large}
-use Rattle.adj_tool.specs.Headline.{flags_of}
+use Rattle.adj_tool.specs.Headline.{RunsAdjoint, flags_of}
 
 -- what the text of a program is in Run mode, and the program itself where its text is refused
 abbrev pub IsReadBack : List Procedure → List Procedure → Type 0
@@ -53,17 +45,6 @@ pub record AreSides (ps : List Procedure) (name : List ℕ) (h : Head) (p : Side
   pub becomes : find_unit (kernel_of ps) name ≡ Some kernel
   pub is_there : find_unit p.emitted (adjoint_name (kernel_of ps) kernel) ≡ Some p.adjoint
   pub shadows : p.shadowed ≡ shadow_flags (marks.shadowed name) p.head.dummies
-
--- What is run as the emitted program is an adjoint of the program for the unit of a name as its head, in which marked loops are reversed by schedules, and looks as one that is emitted. Where no loop is marked, its run takes at most so many statements for each one of the head's own run, by
--- what a statement of the program weighs and how many calls a chain from the head has.
-pub record RunsAdjoint (m : ProgramMarks) (ps : List Procedure) (name : List ℕ) (vars outvars : List Bool) (qs : List Procedure) : Type 0 where
-  pub adjoins : IsAdjointOf (lines_by ps m) m ps name vars outvars qs
-  pub own_names : HaveOwnNames (lines_by ps m)
-  pub shape : HasKernelShape true m ps name vars outvars qs
-  pub spends : HasNoMarks ps → (weight calls : ℕ) → EachUnit (λ u. WeighsAtMost weight u.body) ps → CallsAtMost ps name calls → SpendsAtMost m ps name weight calls qs
-  -- whether loops are marked or not, for each statement of the kernel's run of the head
-  pub spends_reversed : (weight calls : ℕ) → EachUnit (λ u. WeighsAtMost weight u.body) (kernel_of ps) → CallsWithin (kernel_of ps) name calls → KernelSpendsAtMost (lines_by ps m) m ps name weight calls qs
-  pub spends_within : (weight count calls : ℕ) → EachUnit (λ u. WeighsAtMost weight u.body) (kernel_of ps) → HaveVariables count (kernel_of ps) → CallsWithin (kernel_of ps) name calls → KernelSpendsWithin (lines_by ps m) m ps name weight count calls qs
 
 -- the answer to the data behind a text, which tells of no trap but the head's own
 pub record IsChecked (ps : List Procedure) (h : Head) (r : Asked) (bytes : List ℕ) (a : Answer) : Type 0 where

@@ -11,6 +11,7 @@ use Rattle.def_meaning.specs.Apart.{has_name}
 use Rattle.def_names.specs.Fault.{run_rules}
 use Rattle.def_names.specs.Check.{IsSound}
 use Rattle.def_names.specs.HeadFaults.{head_of}
+use Rattle.def_names.specs.Numbers.{Vars}
 use Rattle.def_sweep.specs.Marking.{ProgramMarks}
 use Rattle.def_kernel.specs.Kernel.{EachUnit}
 use Rattle.def_kernel.specs.Weights.{WeighsAtMost}
@@ -19,13 +20,18 @@ use Rattle.def_adjoint.specs.Calls.{CallsWithin}
 use Rattle.def_adjoint.specs.Spends.{SpendsAtMost}
 use Rattle.def_adjoint.specs.KernelSpends.{HaveVariables, KernelSpendsAtMost, KernelSpendsWithin}
 use Rattle.def_adjoint.specs.Adjoint.{HaveOwnNames, IsAdjointOf}
-use Rattle.def_planned.specs.Planned.{HasNoMarks, lines_by, reversed_for}
+use Rattle.def_planned.specs.Planned.{HasNoMarks, kernel_problem, lines_by, reversed_for}
+use Rattle.def_flow.specs.Carried.{IsCarrying, carried_by}
+use Rattle.def_tangent.specs.IsTangent.{IsTangentOfSource}
+use Rattle.def_tangent.specs.Program.{tangent_for}
 use Rattle.def_adjoint.specs.KernelShape.{HasKernelShape}
 use Rattle.adj_tree.specs.declared.marks.Head.{Head}
 use Rattle.def_kernel.specs.Stepped.{kernel_of}
 use Rattle.adj_tool.specs.Fitting.{kernel_fits}
 use Rattle.adj_tool.specs.Planned.{AreExact}
 use Rattle.adj_tool.specs.Arguments.{Request}
+use Rattle.adj_tool.specs.declared.task.Wanted.{Wanted}
+use Rattle.adj_tool.specs.declared.task.Wanted.TheVariants as wanted
 use Rattle.def_text.specs.OrTooMany.{OrTooMany}
 use Rattle.adj_tool_answer.specs.Answer.{Answer}
 use Rattle.adj_tool_answer.specs.Programs.{TextIs}
@@ -39,38 +45,60 @@ pub record IsUnit (ps : List Procedure) (name : List ℕ) : Type 0 where
 abbrev pub flags_of : List (List ℕ) → List (List ℕ) → List Bool
 flags_of listed names = map (λ x. has_name x listed) names
 
+-- A program is an adjoint of a program for the unit of a name as its head, in which marked loops are reversed by schedules, and looks as one that is emitted by
+-- these marks; and its run takes so many statements.
+pub record RunsAdjoint (m : ProgramMarks) (ps : List Procedure) (name : List ℕ) (vars outvars : List Bool) (qs : List Procedure) : Type 0 where
+  -- the marked loops that it reverses by schedules are those whose step call is adjointed, and their step units have other names than their adjoints
+  pub adjoins : IsAdjointOf (lines_by ps m) m ps name vars outvars qs
+  pub own_names : HaveOwnNames (lines_by ps m)
+  -- it has the units, and each of its adjoint units keeps, saves, pushes and sets what these marks say
+  pub shape : HasKernelShape true m ps name vars outvars qs
+  -- Where no loop of the source is marked: by what a statement of the source weighs at most, and by how many calls a chain from the head has at most,
+  -- its run takes so many statements for each one of the source's own run: within 40 * weight * (calls + 2), and two for each dummy of the head.
+  pub spends : HasNoMarks ps → (weight calls : ℕ) → EachUnit (λ u. WeighsAtMost weight u.body) ps → CallsAtMost ps name calls → SpendsAtMost m ps name weight calls qs
+  -- Whether loops are marked or not: by what a statement of the kernel weighs at most, by how many calls a chain from the head has in it at most, and by a
+  -- number of repetitions that serves each run of a reversed loop that the kernel's run of the head told of, its run takes so many statements for
+  -- each one of the kernel's run: (30 + 2 * (calls + 1) * (repetitions + 1)) * weight, and two for each dummy of the head.
+  pub spends_reversed : (weight calls : ℕ) → EachUnit (λ u. WeighsAtMost weight u.body) (kernel_of ps) → CallsWithin (kernel_of ps) name calls → KernelSpendsAtMost (lines_by ps m) m ps name weight calls qs
+  -- with the number of variables that a unit of the kernel has at most: within 100 * (weight + variables) * (calls + 2) * (repetitions + 2)
+  pub spends_within : (weight count calls : ℕ) → EachUnit (λ u. WeighsAtMost weight u.body) (kernel_of ps) → HaveVariables count (kernel_of ps) → CallsWithin (kernel_of ps) name calls → KernelSpendsWithin (lines_by ps m) m ps name weight count calls qs
+
 -- the bytes that were read are a program, whose unit of the name asked for is the head; the bytes that were written are a program too, and the
--- canonical text of that program; it has no fault as one that is run; it is an adjoint of the first one for the head with its independents and dependents, and looks as one that is emitted
-pub record WritesAdjoint (r : Request) (bytes written : List ℕ) : Type 0 where
+-- canonical text of that program; and it has no fault as one that is run
+pub record Rewrites (r : Request) (bytes written : List ℕ) : Type 0 where
   pub source : List Procedure
   pub reads : Reads bytes source
   pub unit : Procedure
   pub is_head : find_unit source r.head ≡ Some unit
   -- what the written bytes are, with the lines at which its units and statements stand there
-  pub adjoint : List Procedure
-  pub reads_back : Reads written adjoint
-  pub text : written ≡ text_of adjoint
+  pub emitted : List Procedure
+  pub reads_back : Reads written emitted
+  pub text : written ≡ text_of emitted
   -- as a text that is run they read as it, up to line numbers, unless they have more statements than a run takes
-  pub runs : TextIs Run (OrTooMany (λ found. unlined found ≡ unlined adjoint)) written
+  pub runs : TextIs Run (OrTooMany (λ found. unlined found ≡ unlined emitted)) written
   -- and it has no fault of units, names, calls, chains and writes there
-  pub sound : IsSound run_rules adjoint
+  pub sound : IsSound run_rules emitted
+
+-- the program that was written is an adjoint of the one that was read, for the head with its independents and dependents
+pub record WritesAdjoint (r : Request) (bytes written : List ℕ) : Type 0 where
+  pub programs : Rewrites r bytes written
   -- by the marks that exact analyses of the kernel give
   pub marks : ProgramMarks
-  pub exact : AreExact source r.head (head_of source r.head r.vars r.outvars) marks
-  -- the marked loops that it reverses by schedules are those whose step call is adjointed, and their step units have other names than their adjoints
-  pub is_adjoint : IsAdjointOf (lines_by source marks) marks source r.head (flags_of r.vars unit.dummies) (flags_of r.outvars unit.dummies) adjoint
-  pub own_names : HaveOwnNames (lines_by source marks)
-  -- it has the units, and each of its adjoint units keeps, saves, pushes and sets what these marks say
-  pub shape : HasKernelShape true marks source r.head (flags_of r.vars unit.dummies) (flags_of r.outvars unit.dummies) adjoint
-  -- Where no loop of the source is marked: by what a statement of the source weighs at most, and by how many calls a chain from the head has at most,
-  -- its run takes so many statements for each one of the source's own run: within 40 * weight * (calls + 2), and two for each dummy of the head.
-  pub spends : HasNoMarks source → (weight calls : ℕ) → EachUnit (λ u. WeighsAtMost weight u.body) source → CallsAtMost source r.head calls → SpendsAtMost marks source r.head weight calls adjoint
-  -- Whether loops are marked or not: by what a statement of the kernel weighs at most, by how many calls a chain from the head has in it at most, and by a
-  -- number of repetitions that serves each run of a reversed loop that the kernel's run of the head told of, its run takes so many statements for
-  -- each one of the kernel's run: (30 + 2 * (calls + 1) * (repetitions + 1)) * weight, and two for each dummy of the head.
-  pub spends_reversed : (weight calls : ℕ) → EachUnit (λ u. WeighsAtMost weight u.body) (kernel_of source) → CallsWithin (kernel_of source) r.head calls → KernelSpendsAtMost (lines_by source marks) marks source r.head weight calls adjoint
-  -- with the number of variables that a unit of the kernel has at most: within 100 * (weight + variables) * (calls + 2) * (repetitions + 2)
-  pub spends_within : (weight count calls : ℕ) → EachUnit (λ u. WeighsAtMost weight u.body) (kernel_of source) → HaveVariables count (kernel_of source) → CallsWithin (kernel_of source) r.head calls → KernelSpendsWithin (lines_by source marks) marks source r.head weight count calls adjoint
+  pub exact : AreExact programs.source r.head (head_of programs.source r.head r.vars r.outvars) marks
+  pub adjoins : RunsAdjoint marks programs.source r.head (flags_of r.vars programs.unit.dummies) (flags_of r.outvars programs.unit.dummies) programs.emitted
+
+-- the program that was written is the tangent of the one that was read, for the head with its independents
+pub record WritesTangent (r : Request) (bytes written : List ℕ) : Type 0 where
+  pub programs : Rewrites r bytes written
+  -- what is varied in the kernel and what carries a tangent there
+  pub varied : ℕ → Vars
+  pub carried : ℕ → Vars
+  pub exact : IsCarrying (kernel_problem programs.source r.head (flags_of r.vars programs.unit.dummies) (flags_of r.outvars programs.unit.dummies)) varied carried
+  -- its run on values and tangents is the dual run of the head, and takes at most twice as many statements for each one of the kernel's dual run as a
+  -- statement of the kernel weighs, and one for each dummy of the head
+  pub is_tangent : IsTangentOfSource (carried_by (kernel_of programs.source) carried) programs.source r.head (flags_of r.vars programs.unit.dummies) programs.emitted
+
+-- ---- what is asked of the text
 
 -- where the answer is done, the kernel fits, and its text reads as the program that is emitted by the marks of exact analyses
 pub record ReadsWritten (ps : List Procedure) (name : List ℕ) (h : Head) (text : List ℕ) : Type 0 where
@@ -80,9 +108,28 @@ pub record ReadsWritten (ps : List Procedure) (name : List ℕ) (h : Head) (text
   pub is_text : text ≡ text_of (reversed_for ps name h.vars h.outvars marks)
   pub reads : ReadsAs text (reversed_for ps name h.vars h.outvars marks)
 
-abbrev pub ReadsBack : Answer → List Procedure → List ℕ → Head → Type 0
-ReadsBack a ps name h = a.status ≡ 0 → ReadsWritten ps name h a.text
+-- the same of a tangent
+pub record ReadsTangent (ps : List Procedure) (name : List ℕ) (h : Head) (text : List ℕ) : Type 0 where
+  pub fits : kernel_fits (kernel_of ps) ≡ true
+  pub varied : ℕ → Vars
+  pub carried : ℕ → Vars
+  pub exact : IsCarrying (kernel_problem ps name h.vars h.outvars) varied carried
+  pub is_text : text ≡ text_of (tangent_for (carried_by (kernel_of ps) carried) ps name h.vars)
+  pub reads : ReadsAs text (tangent_for (carried_by (kernel_of ps) carried) ps name h.vars)
 
--- where the answer to these bytes is done, its text is that of an adjoint
-abbrev pub IsAdjoined : Request → List ℕ → Answer → Type 0
-IsAdjoined r bytes a = a.status ≡ 0 → WritesAdjoint r bytes a.text
+abbrev pub ReadsFor : Wanted → List Procedure → List ℕ → Head → List ℕ → Type 0
+ReadsFor wanted.Adjoint ps name h text = ReadsWritten ps name h text
+ReadsFor wanted.Tangent ps name h text = ReadsTangent ps name h text
+ReadsFor wanted.Plan ps name h text = Unit {0}
+
+abbrev pub ReadsBack : Wanted → Answer → List Procedure → List ℕ → Head → Type 0
+ReadsBack w a ps name h = a.status ≡ 0 → ReadsFor w ps name h a.text
+
+-- where the answer to these bytes is done, its text is that of an adjoint, or of a tangent
+abbrev pub Writes : Wanted → Request → List ℕ → List ℕ → Type 0
+Writes wanted.Adjoint r = WritesAdjoint r
+Writes wanted.Tangent r = WritesTangent r
+Writes wanted.Plan r = λ bytes text. Unit {0}
+
+abbrev pub IsTransformed : Wanted → Request → List ℕ → Answer → Type 0
+IsTransformed w r bytes a = a.status ≡ 0 → Writes w r bytes a.text

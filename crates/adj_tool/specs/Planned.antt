@@ -1,4 +1,4 @@
--- What `adjoint` and `plan` write by the analyses of a kernel. (docs/ANALYSES.md)
+-- What `adjoint`, `tangent` and `plan` write by the analyses of a kernel. (docs/ANALYSES.md)
 use Rattle.std.specs.Prelude.{◌≡◌, ℕ, List, Bool, true, Some, slice_get, false}
 use Rattle.adj_tree.specs.Code.{Procedure}
 use Rattle.adj_tree.specs.declared.marks.Head.{Head}
@@ -15,6 +15,8 @@ use Rattle.def_flow.specs.Activity.{Activity}
 use Rattle.def_flow.specs.Live.{Liveness}
 use Rattle.def_flow.specs.Analysed.{Analysed}
 use Rattle.def_planned.specs.ProgramFacts.{program_facts}
+use Rattle.def_tangent.specs.Program.{tangent_program}
+use Rattle.def_flow.specs.Carried.{IsCarrying, carried_by}
 use Rattle.adj_plan.specs.Lines.{plan_lines, TellsPlan}
 use Rattle.adj_plan.specs.declared.lines.Said.{Said}
 use Rattle.def_planned.specs.Planned.{kernel_problem, marks_by}
@@ -56,6 +58,20 @@ pub record IsAdjointText (us : List Procedure) (h : Head) (text : List ℕ) : Ty
   pub is_text : text ≡ text_of program
   pub reads : IsWritten program → ReadsAs text program
 
+-- it is what is emitted for some units by what carries a tangent in them, which exact analyses say
+pub record IsTangentEmitted (us : List Procedure) (h : Head) (qs : List Procedure) : Type 0 where
+  pub varied : ℕ → Vars
+  pub carried : ℕ → Vars
+  pub exact : IsCarrying (problem_for us h) varied carried
+  pub emitted : qs ≡ tangent_program (carried_by us carried) us h.unit h.vars
+
+-- it is the canonical text of that
+pub record IsTangentText (us : List Procedure) (h : Head) (text : List ℕ) : Type 0 where
+  pub program : List Procedure
+  pub emitted : IsTangentEmitted us h program
+  pub is_text : text ≡ text_of program
+  pub reads : IsWritten program → ReadsAs text program
+
 -- it is the text of their plan: a line for each statement, with the letters that exact analyses say
 pub record IsPlanText (us : List Procedure) (h : Head) (text : List ℕ) : Type 0 where
   pub said : ℕ → ℕ → Said
@@ -65,4 +81,5 @@ pub record IsPlanText (us : List Procedure) (h : Head) (text : List ℕ) : Type 
 
 abbrev pub IsTextFor : Wanted → List Procedure → Head → List ℕ → Type 0
 IsTextFor wanted.Adjoint us h text = IsAdjointText us h text
+IsTextFor wanted.Tangent us h text = IsTangentText us h text
 IsTextFor wanted.Plan us h text = IsPlanText us h text

@@ -7,8 +7,8 @@ use Rattle.adj_tool_answer.specs.Endings.{Asked}
 use Rattle.adj_tool_run.specs.Running.{AnswersRun}
 use Rattle.adj_tool_jacobian.specs.Jacobian as jacobian
 use Rattle.adj_tool_jacobian.specs.Jacobian.{AnswersJacobian}
-use Rattle.adj_tool.specs.Arguments.{Command, Request, Adjoint, Plan, Run, Check, Jacobian, Schedule, Sample}
-use Rattle.adj_tool.specs.Headline.{WritesAdjoint}
+use Rattle.adj_tool.specs.Arguments.{Command, Adjoint, Tangent, Plan, Run, Check, Jacobian, Schedule, Sample}
+use Rattle.adj_tool.specs.Headline.{WritesAdjoint, WritesTangent}
 use Rattle.adj_tool.specs.Check.{AnswersCheck, ChecksAdjoint}
 use Rattle.adj_tool.specs.Sample.{AnswersSample, SamplesAdjoint}
 use Rattle.adj_tool.specs.Answer.{schedule_answer, AnswersWanted, most_bytes}
@@ -32,6 +32,7 @@ IsAnswer None before after a = (a ≡ usage) × (after ≡ before)
 IsAnswer (Some (Schedule l s)) before after a = (a ≡ schedule_answer l s) × (after ≡ before)
 IsAnswer (Some (Sample n)) before after a = AnswersSample n a × (after ≡ before)
 IsAnswer (Some (Adjoint r)) before after a = AnswersInput most_bytes (AnswersWanted wanted.Adjoint r) before after a
+IsAnswer (Some (Tangent r)) before after a = AnswersInput most_bytes (AnswersWanted wanted.Tangent r) before after a
 IsAnswer (Some (Plan r)) before after a = AnswersInput most_bytes (AnswersWanted wanted.Plan r) before after a
 IsAnswer (Some (Run r)) before after a = AnswersInput running.most_bytes (AnswersRun r) before after a
 IsAnswer (Some (Check r vars outvars)) before after a = AnswersInput most_bytes (AnswersCheck r vars outvars) before after a
@@ -40,6 +41,7 @@ IsAnswer (Some (Jacobian r vars outvars)) before after a = AnswersInput jacobian
 -- the arguments ask for a command that reads
 abbrev pub ReadsInput : Option Command → Type 0
 ReadsInput (Some (Adjoint r)) = Unit {0}
+ReadsInput (Some (Tangent r)) = Unit {0}
 ReadsInput (Some (Plan r)) = Unit {0}
 ReadsInput (Some (Run r)) = Unit {0}
 ReadsInput (Some (Check r vars outvars)) = Unit {0}
@@ -63,47 +65,33 @@ pub record WritesFront (asked : Option Command) (before after written_before wri
   pub less : count < length answer.text
   pub front : written_after ≡ extended_by written_before (take count answer.text)
 
--- the bytes that were read and those that were written, of which the second are an adjoint of the first
-pub record Adjoins (r : Request) (before after written_before written_after : Option (List ℕ)) : Type 0 where
+-- the bytes that were read, all that were left, and those that were written, of which this holds
+pub record Transforms (Is : List ℕ → List ℕ → Type 0) (before after written_before written_after : Option (List ℕ)) : Type 0 where
   pub bytes : List ℕ
   pub were_left : before ≡ followed_by bytes after
   pub to_end : IsAtEnd after
   pub text : List ℕ
   pub whole : written_after ≡ extended_by written_before text
-  pub adjoint : WritesAdjoint r bytes text
+  pub is : Is bytes text
 
--- the bytes that were read, all that were left, of which the text is that of an adjoint
-pub record AdjoinsInput (r : Request) (before after : Option (List ℕ)) (text : List ℕ) : Type 0 where
+-- the bytes that were read, all that were left, of which and of a text this holds
+pub record TransformsInput (Is : List ℕ → List ℕ → Type 0) (before after : Option (List ℕ)) (text : List ℕ) : Type 0 where
   pub bytes : List ℕ
   pub were_left : before ≡ followed_by bytes after
   pub to_end : IsAtEnd after
-  pub adjoint : WritesAdjoint r bytes text
+  pub is : Is bytes text
 
--- the answer's text is that of an adjoint, where one was asked for
-abbrev pub IsAdjoinedTo : Option Command → Option (List ℕ) → Option (List ℕ) → List ℕ → Type 0
-IsAdjoinedTo (Some (Adjoint r)) before after text = AdjoinsInput r before after text
-IsAdjoinedTo _ before after text = Unit {0}
+-- the answer's text is that of an adjoint or of a tangent, where one was asked for
+abbrev pub IsWrittenTo : Option Command → Option (List ℕ) → Option (List ℕ) → List ℕ → Type 0
+IsWrittenTo (Some (Adjoint r)) before after text = TransformsInput (WritesAdjoint r) before after text
+IsWrittenTo (Some (Tangent r)) before after text = TransformsInput (WritesTangent r) before after text
+IsWrittenTo _ before after text = Unit {0}
 
--- the theorem of `adjoint`
+-- the theorems of `adjoint` and of `tangent`
 abbrev pub IsHeadline : Option Command → Option (List ℕ) → Option (List ℕ) → Option (List ℕ) → Option (List ℕ) → Type 0
-IsHeadline (Some (Adjoint r)) before after written_before written_after = Adjoins r before after written_before written_after
+IsHeadline (Some (Adjoint r)) before after written_before written_after = Transforms (WritesAdjoint r) before after written_before written_after
+IsHeadline (Some (Tangent r)) before after written_before written_after = Transforms (WritesTangent r) before after written_before written_after
 IsHeadline _ before after written_before written_after = Unit {0}
-
--- the bytes that were read, a program with its data, and those that were written, which tell equal products of its dual run and of its adjoint
-pub record Compares (r : Asked) (vars outvars : List (List ℕ)) (before after written_before written_after : Option (List ℕ)) : Type 0 where
-  pub bytes : List ℕ
-  pub were_left : before ≡ followed_by bytes after
-  pub to_end : IsAtEnd after
-  pub text : List ℕ
-  pub whole : written_after ≡ extended_by written_before text
-  pub checks : ChecksAdjoint r vars outvars bytes text
-
--- the bytes that were read, all that were left, of which the text tells this
-pub record ComparesInput (r : Asked) (vars outvars : List (List ℕ)) (before after : Option (List ℕ)) (text : List ℕ) : Type 0 where
-  pub bytes : List ℕ
-  pub were_left : before ≡ followed_by bytes after
-  pub to_end : IsAtEnd after
-  pub checks : ChecksAdjoint r vars outvars bytes text
 
 -- what was written is the short answer of a check of the sample, of which the text tells equal products
 pub record Samples (n : ℕ) (written_before written_after : Option (List ℕ)) : Type 0 where
@@ -111,14 +99,14 @@ pub record Samples (n : ℕ) (written_before written_after : Option (List ℕ)) 
   pub whole : written_after ≡ extended_by written_before text
   pub samples : SamplesAdjoint n text
 
--- the answer's text tells equal products, where they were asked for
+-- the answer's text tells equal products of the dual run and of the adjoint, where they were asked for
 abbrev pub IsComparedTo : Option Command → Option (List ℕ) → Option (List ℕ) → List ℕ → Type 0
-IsComparedTo (Some (Check r vars outvars)) before after text = ComparesInput r vars outvars before after text
+IsComparedTo (Some (Check r vars outvars)) before after text = TransformsInput (ChecksAdjoint r vars outvars) before after text
 IsComparedTo (Some (Sample n)) before after text = SamplesAdjoint n text
 IsComparedTo _ before after text = Unit {0}
 
 -- the theorem of `check`, and of `sample`
 abbrev pub IsComparison : Option Command → Option (List ℕ) → Option (List ℕ) → Option (List ℕ) → Option (List ℕ) → Type 0
-IsComparison (Some (Check r vars outvars)) before after written_before written_after = Compares r vars outvars before after written_before written_after
+IsComparison (Some (Check r vars outvars)) before after written_before written_after = Transforms (ChecksAdjoint r vars outvars) before after written_before written_after
 IsComparison (Some (Sample n)) before after written_before written_after = Samples n written_before written_after
 IsComparison _ before after written_before written_after = Unit {0}

@@ -15,6 +15,7 @@ some_request r = option_map request_of r
 -- what is asked for
 abbrev pub command_of : Task → arguments.Command
 command_of (task.Adjoint r) = arguments.Adjoint (request_of r)
+command_of (task.Tangent r) = arguments.Tangent (request_of r)
 command_of (task.Plan r) = arguments.Plan (request_of r)
 command_of (task.Run r) = arguments.Run (asked_of r)
 command_of (task.Check r) = arguments.Check (asked_of r.run) r.vars r.outvars

@@ -1,4 +1,4 @@
-//! The commands that are asked for a head: `adjoint` and `plan`.
+//! The commands that are asked for a head: `adjoint`, `tangent` and `plan`.
 
 ghost use Rattle.std.specs.Prelude.{◌≡◌, ◌≤◌, ◌∷◌, [], ℕ, List, None, Ok, length, IfOk};
 ghost use Rattle.adj_tree.specs.View.{procedures_of};
@@ -14,7 +14,7 @@ ghost use Rattle.adj_parse.specs.Trees.{program_of};
 ghost use Rattle.adj_tool_answer.specs.Views.{answer_of};
 ghost use Rattle.adj_tool.specs.Answer.{AnswersAccepted, AnswersChecked, AnswersFitted, AnswersProgram, AnswersWanted, most_bytes, too_large};
 ghost use Rattle.adj_tool.specs.Fitting.{kernel_fits};
-ghost use Rattle.adj_tool.specs.Headline.{IsAdjoined, IsUnit, ReadsBack};
+ghost use Rattle.adj_tool.specs.Headline.{IsTransformed, IsUnit, ReadsBack};
 ghost use Rattle.adj_tool.specs.Views.{request_of};
 
 use crate::planned::text_wanted;
@@ -25,6 +25,7 @@ use adj_symbols::{Checked, check, head};
 use adj_tool_answer::{Answer, Status, read, reading_law, refused};
 use adj_tree::{Fault, Head, Memory, Name, Program, Refusal};
 use law_limits::emitted_law;
+use law_tangent_carried::limits_law;
 use std::alloc::Global;
 
 /// The refusal of a kernel that is too large.
@@ -67,7 +68,7 @@ fn written(
     requires accepted { IsAccepted (procedures_of program.program) }
     requires there { IsUnit (procedures_of program.program) name.now }
     ensures answer { IfOk result (λ a. AnswersFitted (kernel_fits (kernel_of (procedures_of program.program))) wanted (procedures_of program.program) name.now head (answer_of a)) }
-    ensures reads_back { wanted ≡ Wanted.Adjoint → IfOk result (λ a. ReadsBack (answer_of a) (procedures_of program.program) name.now head) }
+    ensures reads_back { IfOk result (λ a. ReadsBack wanted (answer_of a) (procedures_of program.program) name.now head) }
 {
     let kernel = kernel_alone(alloc, program)?;
     if !kernel.fits() {
@@ -101,9 +102,10 @@ fn answer_head(
     requires sound_head { let r = request_of request.now in first_head_fault (procedures_of program.program) r.head r.vars r.outvars ≡ None }
     requires head { let r = request_of request.now in head ≡ head_of (procedures_of program.program) r.head r.vars r.outvars }
     ensures answer { IfOk result (λ a. AnswersAccepted wanted (procedures_of program.program) request.now.head head (answer_of a)) }
-    ensures adjoint { wanted ≡ Wanted.Adjoint → IfOk result (λ a. (bytes : List ℕ) → length bytes ≤ most_bytes → Reads bytes (procedures_of program.program) → program_of Source bytes ≡ Ok (procedures_of program.program) → IsAdjoined (request_of request.now) bytes (answer_of a)) }
+    ensures transformed { IfOk result (λ a. (bytes : List ℕ) → length bytes ≤ most_bytes → Reads bytes (procedures_of program.program) → program_of Source bytes ≡ Ok (procedures_of program.program) → IsTransformed wanted (request_of request.now) bytes (answer_of a)) }
 {
     emitted_law();
+    limits_law();
     reading_law();
     let answer = written(alloc, wanted, program, &request.head, head)?;
     Ok(answer)
@@ -119,7 +121,7 @@ fn answer_checked(
     requires written { IsWritten (procedures_of checked.program) }
     requires sound { IsSound source_rules (procedures_of checked.program) }
     ensures answer { IfOk result (λ a. AnswersChecked None wanted (request_of request.now) (procedures_of checked.program) (answer_of a)) }
-    ensures adjoint { wanted ≡ Wanted.Adjoint → IfOk result (λ a. (bytes : List ℕ) → length bytes ≤ most_bytes → Reads bytes (procedures_of checked.program) → program_of Source bytes ≡ Ok (procedures_of checked.program) → IsAdjoined (request_of request.now) bytes (answer_of a)) }
+    ensures transformed { IfOk result (λ a. (bytes : List ℕ) → length bytes ≤ most_bytes → Reads bytes (procedures_of checked.program) → program_of Source bytes ≡ Ok (procedures_of checked.program) → IsTransformed wanted (request_of request.now) bytes (answer_of a)) }
 {
     let vars = request.vars.as_slice();
     let outvars = request.outvars.as_slice();
@@ -139,7 +141,7 @@ pub(crate) fn answer_program(
 ) -> Result<Answer, Memory>
     requires { IsWritten (procedures_of program) }
     ensures answer { IfOk result (λ a. AnswersProgram wanted (request_of request.now) (procedures_of program) (answer_of a)) }
-    ensures adjoint { wanted ≡ Wanted.Adjoint → IfOk result (λ a. (bytes : List ℕ) → length bytes ≤ most_bytes → Reads bytes (procedures_of program) → program_of Source bytes ≡ Ok (procedures_of program) → IsAdjoined (request_of request.now) bytes (answer_of a)) }
+    ensures transformed { IfOk result (λ a. (bytes : List ℕ) → length bytes ≤ most_bytes → Reads bytes (procedures_of program) → program_of Source bytes ≡ Ok (procedures_of program) → IsTransformed wanted (request_of request.now) bytes (answer_of a)) }
 {
     match check(alloc, program, Mode::Source) {
         Ok(checked) => answer_checked(alloc, wanted, request, checked),
@@ -167,7 +169,7 @@ pub(crate) fn answer_wanted(
 ) -> Result<Answer, Memory>
     requires { length bytes.now ≤ most_bytes }
     ensures answer { IfOk result (λ a. AnswersWanted wanted (request_of request.now) bytes.now (answer_of a)) }
-    ensures adjoint { wanted ≡ Wanted.Adjoint → IfOk result (λ a. IsAdjoined (request_of request.now) bytes.now (answer_of a)) }
+    ensures transformed { IfOk result (λ a. IsTransformed wanted (request_of request.now) bytes.now (answer_of a)) }
 {
     match read(alloc, bytes, Mode::Source) {
         Ok(program) => answer_program(alloc, wanted, request, program),

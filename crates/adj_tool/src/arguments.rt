@@ -1,7 +1,7 @@
 //! The arguments of a command, as `clap` reads them.
 
 ghost use Rattle.std.specs.Prelude.{◌≡◌, ◌≤◌, false, not, is_some, ℕ, List, ◌∷◌, IfOk, IfSome, Option, option_map, option_and_then, map, codes};
-ghost use Rattle.adj_tool.specs.Arguments.{bare_program, program, command_rule, numbers_rule, option_rule, lacks, name_of, names_of, request_asked, adjoint_asked, plan_asked, number_or, limits_asked, run_asked, check_asked, jacobian_asked, lacks_options, schedule_asked, numbers_asked, sample_asked, number_asked, command_asked, asked, taken};
+ghost use Rattle.adj_tool.specs.Arguments.{bare_program, program, command_rule, numbers_rule, option_rule, lacks, name_of, names_of, request_asked, adjoint_asked, tangent_asked, plan_asked, number_or, limits_asked, run_asked, check_asked, jacobian_asked, lacks_options, schedule_asked, numbers_asked, sample_asked, number_asked, command_asked, asked, taken};
 ghost use Rattle.adj_tool_answer.specs.EndingViews.{asked_of};
 ghost use Rattle.adj_tool.specs.Views.{command_of, some_request};
 ghost use Rattle.clap.specs.Simple.{app_of, with_rule};
@@ -143,6 +143,16 @@ fn adjoint_task(alloc: Global, matches: &ArgMatches<'_>) -> Result<Option<Task>,
 {
     match request_asked(alloc, matches)? {
         Some(request) => Ok(Some(Task::Adjoint(request))),
+        None => Ok(None),
+    }
+}
+
+// tangent with these
+fn tangent_task(alloc: Global, matches: &ArgMatches<'_>) -> Result<Option<Task>, Memory>
+    ensures { IfOk result (λ r. option_map command_of r ≡ tangent_asked (rows_of (found_of matches.now))) }
+{
+    match request_asked(alloc, matches)? {
+        Some(request) => Ok(Some(Task::Tangent(request))),
         None => Ok(None),
     }
 }
@@ -314,6 +324,10 @@ fn task_asked(alloc: Global, matches: &ArgMatches<'_>) -> Result<Option<Task>, M
     };
     if name == "adjoint" {
         let task = adjoint_task(alloc, matches)?;
+        return Ok(task);
+    }
+    if name == "tangent" {
+        let task = tangent_task(alloc, matches)?;
         return Ok(task);
     }
     if name == "plan" {

@@ -13,8 +13,8 @@ ghost use Rattle.adj_parse.specs.Trees.{program_of};
 ghost use Rattle.adj_tool_answer.specs.Views.{answer_of};
 ghost use Rattle.adj_tool_answer.specs.EndingViews.{asked_of};
 ghost use Rattle.adj_tool.specs.Answer.{most_bytes};
-ghost use Rattle.adj_tool.specs.Check.{AnswersAcceptedCheck, AnswersCheck, AnswersSoundCheck, AnswersTextCheck, IsCompared};
-ghost use Rattle.adj_tool.specs.Tool.{AnswersInput, ComparesInput};
+ghost use Rattle.adj_tool.specs.Check.{AnswersAcceptedCheck, AnswersCheck, AnswersSoundCheck, AnswersTextCheck, ChecksAdjoint, IsCompared};
+ghost use Rattle.adj_tool.specs.Tool.{AnswersInput, TransformsInput};
 
 use crate::answering::{too_large, unit_number};
 use crate::input::{MOST_BYTES, input_bytes, too_long};
@@ -151,7 +151,7 @@ pub(crate) fn check_input<S: Source>(
     input: &mut S,
 ) -> Result<Answer, Stop>
     ensures answer { IfOk result (λ a. AnswersInput most_bytes (AnswersCheck (asked_of request.now.run) request.now.vars request.now.outvars) (S.left input.old) (S.left input.new) (answer_of a)) }
-    ensures compared { IfOk result (λ a. (answer_of a).status ≡ 0 → ComparesInput (asked_of request.now.run) request.now.vars request.now.outvars (S.left input.old) (S.left input.new) a.text.items) }
+    ensures compared { IfOk result (λ a. (answer_of a).status ≡ 0 → TransformsInput (ChecksAdjoint (asked_of request.now.run) request.now.vars request.now.outvars) (S.left input.old) (S.left input.new) a.text.items) }
     ensures fault { IsErrOf result Stop.ReadFault → Rose (S.faults input.old) (S.faults input.new) }
 {
     let Some(bytes) = input_bytes(alloc, input, MOST_BYTES)? else {

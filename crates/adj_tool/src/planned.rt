@@ -1,4 +1,4 @@
-//! What is written of a kernel: what is emitted for it, or its plan.
+//! What is written of a kernel: what is emitted for it, as its adjoint or as its tangent, or its plan.
 
 ghost use Rattle.std.specs.Prelude.{◌≡◌, ◌<◌, IfOk, length, true};
 ghost use Rattle.adj_tree.specs.View.{procedures_of};
@@ -6,16 +6,18 @@ ghost use Rattle.def_kernel.specs.Form.{IsKernel};
 ghost use Rattle.def_sweep.specs.Program.{emitted_program_with};
 ghost use Rattle.adj_symbols.specs.Checked.{AreFacts};
 ghost use Rattle.adj_symbols.specs.Numbers.{Fits};
+ghost use Rattle.adj_activity.specs.Carried.{AreCarried};
 ghost use Rattle.adj_flow.specs.Asked.{IsFlow, problem_of, units_of};
 ghost use Rattle.adj_plan.specs.Asked.{IsPlan};
 ghost use Rattle.adj_weave.specs.Marked.{marks_told};
-ghost use Rattle.adj_tool.specs.Planned.{IsAdjointText, IsEmittedFor, IsKnownFor, IsPlanText, IsTextFor};
+ghost use Rattle.adj_tool.specs.Planned.{IsAdjointText, IsEmittedFor, IsKnownFor, IsPlanText, IsTangentEmitted, IsTangentText, IsTextFor};
 
 use crate::task::Wanted;
-use adj_plan::{Planned, plan, plan_text};
+use adj_plan::{CarriedFlow, Planned, carrying, plan, plan_text};
 use adj_print::text;
 use adj_sweep::steps::MarkedLoops;
 use adj_symbols::Checked;
+use adj_tangent::{Carried, tangent};
 use adj_tool_check::Emitted;
 use adj_tree::{Head, Memory, Program};
 use adj_weave::{FoundMarks, Marked, adjoint as emit, head_adjoint};
@@ -112,6 +114,52 @@ fn adjoint_text(alloc: Global, kernel: Checked, head: &Head) -> Result<Vec<u8>, 
     Ok(text)
 }
 
+// The program that is emitted for the tangent of a kernel, by what carries a tangent in it.
+fn tangent_by(
+    alloc: Global,
+    kernel: &Checked,
+    head: &Head,
+    found: &CarriedFlow<'_>,
+) -> Result<Program, Memory>
+    requires head { head.now.unit < length kernel.now.program.units }
+    requires kernel { IsKernel (procedures_of kernel.now.program) }
+    requires units { units_of found.now.flow ≡ procedures_of kernel.now.program }
+    requires flow { IsFlow found.now.flow head.now.unit }
+    requires carried { AreCarried found.now.flow head.now found.now.carried }
+    ensures emitted { IfOk result (λ p. IsTangentEmitted (procedures_of kernel.now.program) head.now (procedures_of p)) }
+{
+    let flags = found.carried.as_slice();
+    let flow = &found.flow;
+    let carried = Carried { flags, flow };
+    let program = tangent(alloc, kernel, head, carried)?;
+    Ok(program)
+}
+
+// What is emitted for the tangent of a kernel. What carries a tangent is gone then.
+fn tangent_for(alloc: Global, kernel: &Checked, head: &Head) -> Result<Program, Memory>
+    requires fits { Fits kernel.now }
+    requires head { head.now.unit < length kernel.now.program.units }
+    requires kernel { IsKernel (procedures_of kernel.now.program) }
+    ensures emitted { IfOk result (λ p. IsTangentEmitted (procedures_of kernel.now.program) head.now (procedures_of p)) }
+{
+    let found = carrying(alloc, kernel, head)?;
+    let program = tangent_by(alloc, kernel, head, &found)?;
+    Ok(program)
+}
+
+// The text of the tangent of a kernel. The kernel is gone when the text is laid out.
+fn tangent_text(alloc: Global, kernel: Checked, head: &Head) -> Result<Vec<u8>, Memory>
+    requires fits { Fits kernel }
+    requires head { head.now.unit < length kernel.program.units }
+    requires kernel { IsKernel (procedures_of kernel.program) }
+    ensures text { IfOk result (λ v. IsTangentText (procedures_of kernel.program) head.now v.items) }
+{
+    let program = tangent_for(alloc, &kernel, head)?;
+    drop(kernel);
+    let text = text(alloc, &program)?;
+    Ok(text)
+}
+
 // The text of a plan.
 fn marks_text(
     alloc: Global,
@@ -143,6 +191,7 @@ pub(crate) fn text_wanted(
 {
     match wanted {
         Wanted::Adjoint => adjoint_text(alloc, kernel, head),
+        Wanted::Tangent => tangent_text(alloc, kernel, head),
         Wanted::Plan => {
             let found = plan(alloc, &kernel, head)?;
             marks_text(alloc, &kernel, head, &found)

@@ -21,10 +21,11 @@ pub struct CheckRequest {
     pub outvars: NameList,
 }
 
-/// What is wanted of a head: its adjoint, or the marks by which that is written.
+/// What is wanted of a head: its adjoint, its tangent, or the marks by which the adjoint is written.
 #[derive(Clone, Copy, Debug)]
 pub enum Wanted {
     Adjoint,
+    Tangent,
     Plan,
 }
 
@@ -43,6 +44,8 @@ pub struct Reversal {
 pub enum Task {
     /// Write the adjoint of a unit.
     Adjoint(Request),
+    /// Write the tangent of a unit.
+    Tangent(Request),
     /// Write the marks of the kernel.
     Plan(Request),
     /// Run a unit on data.

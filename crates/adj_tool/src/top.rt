@@ -5,8 +5,9 @@ ghost use Rattle.adj_io.specs.Faults.{Rose};
 ghost use Rattle.adj_tool.specs.Arguments.{taken};
 ghost use Rattle.adj_tool_answer.specs.Views.{answer_of};
 ghost use Rattle.adj_tool.specs.Answer.{AnswersWanted, most_bytes};
+ghost use Rattle.adj_tool.specs.Headline.{Writes};
 ghost use Rattle.adj_tool.specs.Views.{request_of};
-ghost use Rattle.adj_tool.specs.Tool.{AdjoinsInput, AnswersInput, IsAdjoinedTo, IsAnswer, IsComparedTo, IsComparison, IsHeadline, ReadsInput, WritesAll, WritesFront};
+ghost use Rattle.adj_tool.specs.Tool.{AnswersInput, IsAnswer, IsComparedTo, IsComparison, IsHeadline, IsWrittenTo, ReadsInput, TransformsInput, WritesAll, WritesFront};
 
 use crate::answering::answer_wanted;
 use crate::arguments::take;
@@ -31,7 +32,7 @@ fn answer_input<S: Source>(
     input: &mut S,
 ) -> Result<Answer, Stop>
     ensures answer { IfOk result (λ a. AnswersInput most_bytes (AnswersWanted wanted (request_of request.now)) (S.left input.old) (S.left input.new) (answer_of a)) }
-    ensures adjoint { wanted ≡ Wanted.Adjoint → IfOk result (λ a. (answer_of a).status ≡ 0 → AdjoinsInput (request_of request.now) (S.left input.old) (S.left input.new) a.text.items) }
+    ensures transformed { IfOk result (λ a. (answer_of a).status ≡ 0 → TransformsInput (Writes wanted (request_of request.now)) (S.left input.old) (S.left input.new) a.text.items) }
     ensures fault { IsErrOf result Stop.ReadFault → Rose (S.faults input.old) (S.faults input.new) }
 {
     let Some(bytes) = input_bytes(alloc, input, MOST_BYTES)? else {
@@ -49,7 +50,7 @@ fn answer_arguments<S: Source>(
     input: &mut S,
 ) -> Result<Answer, Stop>
     ensures answer { IfOk result (λ a. IsAnswer (taken arguments.now) (S.left input.old) (S.left input.new) (answer_of a)) }
-    ensures adjoint { IfOk result (λ a. (answer_of a).status ≡ 0 → IsAdjoinedTo (taken arguments.now) (S.left input.old) (S.left input.new) a.text.items) }
+    ensures written { IfOk result (λ a. (answer_of a).status ≡ 0 → IsWrittenTo (taken arguments.now) (S.left input.old) (S.left input.new) a.text.items) }
     ensures compared { IfOk result (λ a. (answer_of a).status ≡ 0 → IsComparedTo (taken arguments.now) (S.left input.old) (S.left input.new) a.text.items) }
     ensures fault { IsErrOf result Stop.ReadFault → Rose (S.faults input.old) (S.faults input.new) }
     ensures reads { IsErrOf result Stop.ReadFault → ReadsInput (taken arguments.now) }
@@ -62,6 +63,10 @@ fn answer_arguments<S: Source>(
     match task {
         Task::Adjoint(request) => {
             let answer = answer_input(alloc, Wanted::Adjoint, &request, input)?;
+            Ok(answer)
+        }
+        Task::Tangent(request) => {
+            let answer = answer_input(alloc, Wanted::Tangent, &request, input)?;
             Ok(answer)
         }
         Task::Plan(request) => {
@@ -109,7 +114,7 @@ pub fn tool<S: Source, K: Sink>(
     ensures write_fault { result ≡ 8 → Rose (K.faults output.old) (K.faults output.new) }
     ensures front { result ≡ 8 → WritesFront (taken arguments.now) (S.left input.old) (S.left input.new) (K.taken output.old) (K.taken output.new) }
     ensures unwritten { (result ≡ 7) ⊎ (result ≡ 9) → K.taken output.new ≡ K.taken output.old }
-    // Where `adjoint` is done, what was written is an adjoint of what was read.
+    // Where `adjoint` is done, what was written is an adjoint of what was read; where `tangent` is done, its tangent.
     ensures headline { result ≡ 0 → IsHeadline (taken arguments.now) (S.left input.old) (S.left input.new) (K.taken output.old) (K.taken output.new) }
     // Where `check` or `sample` is done, the two products that were written are equal, and the adjoint never trapped.
     ensures compared { result ≡ 0 → IsComparison (taken arguments.now) (S.left input.old) (S.left input.new) (K.taken output.old) (K.taken output.new) }

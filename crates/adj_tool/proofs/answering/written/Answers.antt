@@ -46,4 +46,4 @@ returns-clause-reads_back c =
     let is = c.unit_number-unit.ensures ∙ ap (λ q. unit_number (procedures_of q) c.args.name.now) c.program.ensures.program in
     let x = for_kernel ps c.in_ok-kernel.kernel.program c.in_ok-kernel.ensures.kernel (λ us k. IsTextFor w us k text) c.args.name.now c.unit_number-unit.result is h.vars h.outvars c.in_ok-text.ensures.text in
     let fits : kernel_fits (kernel_of ps) ≡ true = search rules in
-    λ adjoint done. text_reads ps c.args.name.now h c.requires.accepted fits w adjoint text x
+    λ done. text_reads ps c.args.name.now h c.requires.accepted fits w text x
