@@ -6,7 +6,7 @@ BEGIN {
   in_one = 1024
   for (text = 1; text < ARGC; text++) {
     read_text(ARGV[text])
-    find_adjoints()
+    find_sources()
     path = path_for(ARGV[text])
     for (unit = 1; unit <= units; unit++) take_unit()
     close(path)
@@ -25,21 +25,21 @@ function path_for(file,    base, count) {
   return path
 }
 
-# The unit of an earlier text whose adjoint a name is, or nothing: the adjoint of P is P_B, or P_B_k where that was taken.
-function source_of(adjoint,    source) {
-  if (!match(adjoint, /_B(_[0-9]+)?$/)) return ""
-  source = substr(adjoint, 1, RSTART - 1)
+# The unit of an earlier text whose adjoint or tangent a name is, or nothing: the adjoint of P is P_B, or P_B_k where that was taken, and the tangent P_D or P_D_k.
+function source_of(made,    source) {
+  if (!match(made, /_[BD](_[0-9]+)?$/)) return ""
+  source = substr(made, 1, RSTART - 1)
   return (source in home) ? source : ""
 }
 
-# Which earlier texts this one is an adjoint of.
-function find_adjoints(    u) {
-  split("", adjoint_of)
-  for (u = 1; u <= units; u++) if (source_of(name[u]) != "") adjoint_of[home[source_of(name[u])]] = 1
+# Which earlier texts this one is an adjoint or a tangent of.
+function find_sources(    u) {
+  split("", made_from)
+  for (u = 1; u <= units; u++) if (source_of(name[u]) != "") made_from[home[source_of(name[u])]] = 1
 }
 
-# An adjoint repeats the units that it calls as they are, in another form. They are left out where a model before it has them, and so is
-# a unit that an earlier text has in the same form. Two adjoints of one unit needn't be the same.
+# An adjoint, or a tangent, repeats the units that it calls as they are, in another form. They are left out where a model before it has them, and so is
+# a unit that an earlier text has in the same form. Two adjoints, or two tangents, of one unit needn't be the same.
 function take_unit(    this, whole, i) {
   this = name[unit]
   for (i = first[unit]; i <= last[unit]; i++) whole = whole bare[i] "\n"
@@ -49,7 +49,7 @@ function take_unit(    this, whole, i) {
     write_unit()
   } else if (home[this] == text) {
     fail("the unit " this " is twice in " ARGV[text])
-  } else if (form[this] != whole && (!(home[this] in adjoint_of) || source_of(this) != "")) {
+  } else if (form[this] != whole && (!(home[this] in made_from) || source_of(this) != "")) {
     fail("the unit " this " is in " ARGV[home[this]] " and in " ARGV[text] ", with other statements")
   }
 }

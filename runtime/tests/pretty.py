@@ -159,7 +159,7 @@ def with_factors(name, made):
             actuals = fixed_form.split_list(code[start + 1: -1])
             code = code[: start + 1] + ",".join(times(a) if a.startswith("(") else a for a in actuals) + ")"
         lines += fixed_form.laid_out(code)
-    arguments = made.arguments()[1:]
+    arguments = made.arguments()
     return Text(name, arguments, "\n".join(lines) + "\n", origin)
 
 

@@ -29,6 +29,7 @@ VALUES = rb"[A-Z][A-Z0-9_]*( -?\d+)+\n"
 DONE = {
     # an emitted text begins with a unit and ends with one; its lines have at most 72 columns
     "adjoint": rb"      SUBROUTINE [A-Z][A-Z0-9_]*_B(_\d+)?.*\n(?:(?:      |     \+|C\$AD ).{1,66}\n)*      END\n",
+    "tangent": rb"      SUBROUTINE [A-Z][A-Z0-9_]*_D(_\d+)?.*\n(?:(?:      |     \+|C\$AD ).{1,66}\n)*      END\n",
     "plan": rb"([A-Z][A-Z0-9_]* \d+ (ASSIGN|IF|DO|MARKED|WHILE|CALL) [K-][A-][P-]\n)*",
     "run": rb"(" + VALUES + rb")*TAPE \d+\nUSED \d+\n",
     "check": rb"(?:OUT " + VALUES + rb")+(?:TAN " + VALUES + rb")+(?:ADJ " + VALUES + rb")+PRODUCTS (?P<product>-?\d+) (?P=product)\nADVANCES \d+\n",
@@ -43,6 +44,7 @@ FRONTS = {"one-assignment": {**dict.fromkeys([65, 66, *range(71, 79)], 3), 79: 0
 TEXTS = [
     ("square", OTHERS, [], {0, 2}),
     ("sum-of-an-array", b"(9\x00", [], {0, 2}),
+    ("tangent-of-elements", b"(9\x00", [], {0, 2}),
     ("plan-of-a-sum", b"(9\x00\n ", [], {0, 2}),
     ("one-assignment", b"\x00\n 0Z\xff", ["--budget", "1000"], {0, 2, 3, 4, 5, 6}),
     ("loop-from-the-least-number-to-the-greatest", b"(9\x00", ["--budget", "100"], {0, 2, 3, 4, 5}),
