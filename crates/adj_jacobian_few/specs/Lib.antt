@@ -1,0 +1,3 @@
+-- the definitions of the crate, a module a subject
+pub mod Merged
+pub mod Few
