@@ -1,8 +1,8 @@
 -- The entries of products are those of the dense derivative.
-use Rattle.std.proofs.Common.{◌≡◌, ℕ, zero, suc, ◌+◌, ◌<◌, ◌≤◌, Bool, true, false, List, [], ◌∷◌, ◌++◌, map, length, get_or, refl, sym, ap, subst, ◌∙◌, arith}
+use Rattle.std.proofs.Common.{◌≡◌, ℕ, zero, suc, ◌+◌, ◌<◌, Bool, true, false, List, [], ◌∷◌, ◌++◌, map, length, get_or, refl, sym, ap, subst, ◌∙◌, arith}
 use Rattle.std.proofs.Math.Dec.{ltb}
 use Rattle.std.proofs.lemmas.Bool.{ltb-true, ltb-false}
-use Rattle.std.specs.Prelude.{ℤ, pos, slice_get, Some}
+use Rattle.std.specs.Prelude.{ℤ, slice_get, Some}
 use Rattle.std.specs.List.{All}
 use Rattle.std.proofs.lemmas.List.{length-map, get_or-map}
 use Rattle.std.proofs.lemmas.List.Elements.{All-filter}
@@ -11,24 +11,20 @@ use Rattle.def_meaning.specs.Scene.{Outcome, Done, Trapped, More, Full}
 use Rattle.def_meaning.specs.Units.{Output}
 use Rattle.def_jacobian.specs.Columns.{Columns}
 use Rattle.def_jacobian.specs.Patterns.{Task, Place, pattern_run, dual_run, columns_at, tangent_of, dense}
-use Rattle.def_jacobian.specs.Groups.{has, in_group, group_of, count_of, AreLeastGroups, seed}
-use Rattle.def_jacobian.specs.Recovered.{from, Row, listed, places, rows_at, columns_in, entries, found}
+use Rattle.def_jacobian.specs.Groups.{has, group_of, count_of, AreLeastGroups, seed}
+use Rattle.def_jacobian.specs.Recovered.{from, Row, places, rows_at, columns_in, entries, found}
 use Rattle.law_jacobian.proofs.Grouping.{in_own, groups_counted}
 use Rattle.law_jacobian.proofs.Recovering.{Among, listed_in, columns_of_row, entries_alike, recovers_dense}
-use Rattle.adj_jacobian_groups.specs.declared.sparsity.Cell.{Cell}
 use Rattle.adj_jacobian_groups.specs.declared.sparsity.Row.{Row as CodeRow}
 use Rattle.adj_jacobian_groups.specs.declared.sparsity.Sparsity.{Sparsity}
 use Rattle.adj_jacobian_groups.specs.View.{place_of, row_of, rows_of, columns_of_rows, AreNumbered}
 use Rattle.adj_jacobian.specs.declared.entry.Derivative.{Derivative}
 use Rattle.adj_jacobian.specs.Products.{entry_of, tangent_in}
-use Rattle.adj_jacobian.specs.Ends.{IsPattern, PatternOf}
-use Rattle.adj_jacobian.specs.Derives.{AreProducts, IsDerivative, DerivativeOf}
+use Rattle.adj_jacobian.specs.Ends.{PatternOf}
+use Rattle.adj_jacobian.specs.Derives.{AreProducts, DerivativeOf}
+use Rattle.adj_jacobian.proofs.Ranges.{length_from}
 
 -- ---- the numbers in rows
-
-length_from : (i n : ℕ) → length (from i n) ≡ n
-length_from i zero = refl
-length_from i (suc n) = ap suc (length_from (suc i) n)
 
 from_at : (i n k d : ℕ) → k < n → get_or (from i n) k d ≡ i + k
 from_at i zero k d h = absurd (omega (arith, h))
@@ -58,6 +54,13 @@ numbered p outvars (Done out used) s h =
 numbered p outvars (Trapped t line w) s h = absurd h
 numbered p outvars (More w) s h = absurd h
 numbered p outvars (Full w) s h = absurd h
+
+-- the columns of a pattern
+pub columns_told : (p : Task) (outvars : List Bool) (q : Outcome (Output (ℤ × Columns))) (s : Sparsity) → PatternOf p outvars q s → map place_of s.cols ≡ places p.vars p.input 0
+columns_told p outvars (Done out used) s h = h.columns
+columns_told p outvars (Trapped t line w) s h = absurd h
+columns_told p outvars (More w) s h = absurd h
+columns_told p outvars (Full w) s h = absurd h
 
 -- a list has a member at a place within it
 pub record Member {X : Type 0} (xs : List X) (i : ℕ) : Type 0 where

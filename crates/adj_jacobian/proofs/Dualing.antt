@@ -1,6 +1,6 @@
 -- Dual runs in the directions of groups.
-use Rattle.std.proofs.Common.{◌≡◌, ℕ, zero, suc, ◌+◌, ◌<◌, Bool, true, false, List, [], ◌∷◌, map, length, drop, refl, sym, ap, ◌∙◌, arith}
-use Rattle.std.specs.Prelude.{ℤ, pos, Err}
+use Rattle.std.proofs.Common.{◌≡◌, ℕ, zero, suc, Bool, true, false, List, [], ◌∷◌, map, length, drop, refl, ap, subst, ◌∙◌, arith}
+use Rattle.std.specs.Prelude.{ℤ, Err}
 use Rattle.std.specs.List.{zip}
 use Rattle.adj_tree.specs.declared.value.Slot.{Slot as CodeSlot}
 use Rattle.def_meaning.specs.Numbers.{words, duals}
@@ -10,7 +10,10 @@ use Rattle.def_meaning.specs.Units.{Slot, Output, nth_cell}
 use Rattle.def_jacobian.specs.Columns.{Columns}
 use Rattle.def_jacobian.specs.Inputs.{as_columns, by_columns, in_direction, tangents, paired}
 use Rattle.def_jacobian.specs.Patterns.{Place, held, tangent_of}
+use Rattle.def_jacobian.specs.Recovered.{places}
 use Rattle.law_jacobian.proofs.Runs.{direction_paired}
+use Rattle.adj_jacobian_groups.specs.declared.sparsity.Cell.{Cell}
+use Rattle.adj_jacobian_groups.specs.View.{place_of}
 use Rattle.adj_reach.specs.Edges.{flag}
 use Rattle.adj_interp.specs.Concludes.{slot_seen}
 use Rattle.adj_interp.specs.Dually.{AreTangents, IsTangent, dual_slot, dual_slots, DualDone, DualEnds}
@@ -31,6 +34,11 @@ dual_paired (v ∷ vs) (t ∷ ts) = ap (λ rest. dual_slot (v, t) ∷ rest) (dua
 -- the input of a dual run in a direction
 pub dual_input : (t : ℕ → ℤ) (vars : List Bool) (vs ts : List CodeSlot) → map slot_seen ts ≡ tangents t vars (map slot_seen vs) → dual_slots vs ts ≡ in_direction t vars (map slot_seen vs)
 dual_input t vars vs ts e = dual_paired vs ts ∙ ap (paired (map slot_seen vs)) e ∙ direction_paired t vars (map slot_seen vs)
+
+-- the direction of a group on an input
+pub seeded : (t : ℕ → ℤ) (vars : List Bool) (columns : List Cell) (ts vs input : List CodeSlot) → vs ≡ input → (map place_of columns ≡ places vars (map slot_seen vs) 0 → map slot_seen ts ≡ tangents t vars (map slot_seen vs)) →
+    map place_of columns ≡ places vars (map slot_seen input) 0 → map slot_seen ts ≡ tangents t vars (map slot_seen input)
+seeded t vars columns ts vs input e told at = subst (λ (zs : List CodeSlot). map place_of columns ≡ places vars (map slot_seen zs) 0 → map slot_seen ts ≡ tangents t vars (map slot_seen zs)) e told at
 
 columns_length : {C : Type 0} (own : ℤ → ℕ → C) (zs : List ℤ) (j : ℕ) → length (as_columns own zs j) ≡ length zs
 columns_length own [] j = refl

@@ -1,11 +1,11 @@
 -- Entries, row by row and column by column.
-use Rattle.std.proofs.Common.{◌≡◌, ℕ, zero, suc, ◌+◌, ◌<◌, ◌≤◌, List, [], ◌∷◌, ◌++◌, map, length, drop, get_or, refl, sym, ap, ◌∙◌, append_assoc, arith}
+use Rattle.std.proofs.Common.{◌≡◌, ℕ, suc, ◌+◌, ◌<◌, ◌≤◌, List, [], ◌∷◌, ◌++◌, length, drop, get_or, sym, ap, ◌∙◌, append_assoc, arith}
 use Rattle.std.specs.Prelude.{ℤ}
 use Rattle.std.proofs.lemmas.List.{drop_more, drop_all}
 use Rattle.def_jacobian.specs.Patterns.{Place}
-use Rattle.def_jacobian.specs.Recovered.{Entry, entries_of_row, entries}
+use Rattle.def_jacobian.specs.Recovered.{entries_of_row, entries}
 use Rattle.adj_jacobian_groups.specs.declared.sparsity.Row.{Row as CodeRow}
-use Rattle.adj_jacobian_groups.specs.View.{place_of, row_of, rows_of}
+use Rattle.adj_jacobian_groups.specs.View.{place_of, rows_of}
 
 module _ (value : Place → ℕ → ℤ) where
   -- the entry at a column

@@ -1,6 +1,6 @@
 -- What cells hold, and products.
-use Rattle.std.proofs.Common.{◌≡◌, ℕ, zero, suc, ◌<◌, ◌≤◌, Bool, true, false, List, [], ◌∷◌, map, length, get_or, refl, sym, ap, ◌∙◌, arith}
-use Rattle.std.specs.Prelude.{ℤ, pos, ◌==◌}
+use Rattle.std.proofs.Common.{◌≡◌, ℕ, zero, suc, ◌<◌, ◌≤◌, false, List, [], ◌∷◌, map, length, get_or, refl, sym, ap, arith}
+use Rattle.std.specs.Prelude.{pos, ◌==◌}
 use Rattle.adj_tree.specs.declared.value.Slot.{Slot as CodeSlot}
 use Rattle.def_meaning.specs.Numbers.{Numbers, words}
 use Rattle.def_meaning.specs.Units.{Slot, nth_cell}

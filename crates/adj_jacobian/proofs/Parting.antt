@@ -1,54 +1,25 @@
--- Runs over blocks of columns end as the pattern run.
-use Rattle.std.proofs.Common.{◌≡◌, ℕ, zero, suc, ◌+◌, Bool, true, false, List, [], ◌∷◌, map, length, refl, sym, ap, ap₂, ◌∙◌}
+-- Runs over blocks of columns, and over few columns, end as the pattern run.
+use Rattle.std.proofs.Common.{◌≡◌, ℕ, List, sym, ap, subst, ◌∙◌}
 use Rattle.std.specs.Prelude.{ℤ, ◌&&◌, Result, Ok, Err}
-use Rattle.adj_tree.specs.Code.{Procedure}
 use Rattle.adj_tape.specs.Held.{Held}
-use Rattle.def_meaning.specs.Numbers.{Numbers, words}
 use Rattle.def_meaning.specs.Scene.{Outcome, Done, Trapped, More, Full}
-use Rattle.def_meaning.specs.Seen.{Projects, slot_seen, output_seen, ending_seen}
-use Rattle.def_meaning.specs.Units.{Slot, Output, fits}
+use Rattle.def_meaning.specs.Seen.{output_seen, ending_seen}
+use Rattle.def_meaning.specs.Units.{Slot, Output}
 use Rattle.def_jacobian.specs.Columns.{Columns, marked}
-use Rattle.def_jacobian.specs.Inputs.{as_columns, by_columns}
 use Rattle.def_jacobian.specs.Laws.{in_part}
 use Rattle.def_jacobian.specs.Patterns.{Place, held, columns_at}
-use Rattle.law_jacobian.proofs.Runs.{input_seen, held_seen, part_does}
+use Rattle.law_jacobian.proofs.Runs.{held_seen, part_does}
 use Rattle.adj_interp.specs.declared.log.Log.{Log}
 use Rattle.adj_interp.specs.declared.stop.Stop.{Stop}
 use Rattle.adj_interp.specs.declared.stop.Stop.TheVariants as stop
 use Rattle.adj_interp.specs.Ended.{EndsWith}
-use Rattle.adj_interp.proofs.Tangents.{fits_seen}
 use Rattle.adj_jacobian_block.specs.declared.block.Block.{Block}
-use Rattle.adj_jacobian_block.specs.Blocks.{blocks, columns_of, marked_by, own_in, inside_block}
+use Rattle.adj_jacobian_block.specs.Blocks.{blocks, columns_of, marked_by, inside_block}
 use Rattle.adj_jacobian_block.proofs.Seen.{blocks_do}
-use Rattle.adj_jacobian.specs.Ends.{IsPart, PartSo}
-
--- ---- inputs
-
--- words with masks do as words
-without_masks : Projects (λ (b : Block). b.value) blocks words
-without_masks = record { of_word = λ z. refl; shown = λ a. refl; negation = λ a. refl; sum = λ a b. refl; difference = λ a b. refl; product = λ a b. refl; raised_to = λ a k. refl }
-
-same_cells : (zs : List ℤ) → map (λ z. z) zs ≡ zs
-same_cells [] = refl
-same_cells (z ∷ zs) = ap (λ rest. z ∷ rest) (same_cells zs)
-
-same_columns : (zs : List ℤ) (j : ℕ) → as_columns (λ z i. z) zs j ≡ zs
-same_columns [] j = refl
-same_columns (z ∷ zs) j = ap (λ rest. z ∷ rest) (same_columns zs (suc j))
-
--- an input whose columns are forgotten
-same_input : (vars : List Bool) (vs : List (Slot ℤ)) (j : ℕ) → by_columns (λ z. z) (λ z i. z) vars vs j ≡ vs
-same_input vars [] j = refl
-same_input [] (v ∷ vs) j = λ i. record { shape = v.shape; cells = same_cells v.cells i } ∷ same_input [] vs j i
-same_input (true ∷ vars) (v ∷ vs) j = λ i. record { shape = v.shape; cells = same_columns v.cells j i } ∷ same_input vars vs (j + length v.cells) i
-same_input (false ∷ vars) (v ∷ vs) j = λ i. record { shape = v.shape; cells = same_cells v.cells i } ∷ same_input vars vs j i
-
--- an input fits as words with masks where it fits
-pub block_fits : (k : ℕ) (u : Procedure) (vars : List Bool) (vs : List (Slot ℤ)) → fits words u vs ≡ true → fits blocks u (by_columns blocks.of_word (own_in k) vars vs 0) ≡ true
-block_fits k u vars vs h =
-    fits_seen (λ (b : Block). b.value) blocks words without_masks u (by_columns blocks.of_word (own_in k) vars vs 0)
-    ∙ ap (fits words u) (input_seen (λ (b : Block). b.value) blocks.of_word (own_in k) vars vs 0 ∙ same_input vars vs 0)
-    ∙ h
+use Rattle.adj_jacobian_few.specs.declared.few.Few.{Few}
+use Rattle.adj_jacobian_few.specs.Few.{few, Tells, FewTells}
+use Rattle.adj_jacobian.specs.Lists.{list_in}
+use Rattle.adj_jacobian.specs.Ends.{PartSo, FewSo}
 
 -- ---- ends
 
@@ -97,3 +68,36 @@ module _ (k : ℕ) where
   part_ends seen (Full w) (Done res more) r tape log e h = cc
   part_ends seen (Full w) (Trapped t m v) r tape log e h = cc
   part_ends seen (Full w) (More v) r tape log e h = cc
+
+-- a run over few columns
+pub few_ends : {A : Type 0} (seen : A → List (Slot Few)) (o : Outcome (Output Few)) (q : Outcome (Output (ℤ × Columns))) (r : Result A Stop) (tape : Held Few) (log : Log) →
+    FewTells o q → EndsWith few seen o r tape log → FewSo seen q r
+few_ends seen (Done out used) (Done res more) (Ok a) tape log e h = λ b. subst (λ slots. Tells (list_in slots b) (columns_at res b)) (sym h.0) (e.1 b)
+few_ends seen (Done out used) (Done res more) (Err (stop.Trap t l)) tape log e h = absurd h
+few_ends seen (Done out used) (Done res more) (Err stop.Budget) tape log e h = absurd h
+few_ends seen (Done out used) (Done res more) (Err stop.TapeFull) tape log e h = absurd h
+few_ends seen (Trapped d line w) (Trapped t m v) (Err (stop.Trap c l)) tape log e h = (sym h.0 ∙ e.0, sym h.1 ∙ e.1)
+few_ends seen (Trapped d line w) (Trapped t m v) (Ok a) tape log e h = absurd h
+few_ends seen (Trapped d line w) (Trapped t m v) (Err stop.Budget) tape log e h = absurd h
+few_ends seen (Trapped d line w) (Trapped t m v) (Err stop.TapeFull) tape log e h = absurd h
+few_ends seen (More w) (More v) (Ok a) tape log e h = absurd h
+few_ends seen (More w) (More v) (Err (stop.Trap t l)) tape log e h = absurd h
+few_ends seen (More w) (More v) (Err stop.Budget) tape log e h = tt
+few_ends seen (More w) (More v) (Err stop.TapeFull) tape log e h = absurd h
+few_ends seen (Full w) (Full v) (Ok a) tape log e h = absurd h
+few_ends seen (Full w) (Full v) (Err (stop.Trap t l)) tape log e h = absurd h
+few_ends seen (Full w) (Full v) (Err stop.Budget) tape log e h = absurd h
+few_ends seen (Full w) (Full v) (Err stop.TapeFull) tape log e h = tt
+few_ends seen o q (Err stop.Memory) tape log e h = tt
+few_ends seen (Done out used) (Trapped t m v) r tape log e h = absurd e
+few_ends seen (Done out used) (More v) r tape log e h = absurd e
+few_ends seen (Done out used) (Full v) r tape log e h = absurd e
+few_ends seen (Trapped d line w) (Done res more) r tape log e h = absurd e
+few_ends seen (Trapped d line w) (More v) r tape log e h = absurd e
+few_ends seen (Trapped d line w) (Full v) r tape log e h = absurd e
+few_ends seen (More w) (Done res more) r tape log e h = absurd e
+few_ends seen (More w) (Trapped t m v) r tape log e h = absurd e
+few_ends seen (More w) (Full v) r tape log e h = absurd e
+few_ends seen (Full w) (Done res more) r tape log e h = absurd e
+few_ends seen (Full w) (Trapped t m v) r tape log e h = absurd e
+few_ends seen (Full w) (More v) r tape log e h = absurd e

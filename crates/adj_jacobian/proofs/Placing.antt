@@ -1,7 +1,7 @@
 -- The cells of dummies, dummy by dummy.
-use Rattle.std.proofs.Common.{◌≡◌, ℕ, zero, suc, ◌+◌, ◌<◌, ◌≤◌, Bool, true, false, List, [], ◌∷◌, ◌++◌, map, length, drop, get_or, refl, sym, ap, ap₂, ◌∙◌, arith}
+use Rattle.std.proofs.Common.{◌≡◌, ℕ, suc, ◌+◌, ◌<◌, ◌≤◌, Bool, true, false, List, [], ◌∷◌, ◌++◌, map, length, drop, get_or, refl, sym, ap, ap₂, ◌∙◌, arith}
 use Rattle.std.specs.Prelude.{ℤ, if◌then◌else◌}
-use Rattle.std.proofs.lemmas.List.{drop_more, drop_all, map-append, map_push}
+use Rattle.std.proofs.lemmas.List.{drop_more, drop_all, map_push}
 use Rattle.adj_tree.specs.declared.value.Slot.{Slot as CodeSlot}
 use Rattle.def_meaning.specs.Units.{Slot}
 use Rattle.def_jacobian.specs.Patterns.{Place}

@@ -1,13 +1,16 @@
 -- Numbers from one on, and those of them that a test lets through.
-use Rattle.std.proofs.Common.{◌≡◌, ℕ, zero, suc, ◌+◌, ◌-◌, ◌*◌, ◌/◌, ◌%◌, ◌^◌, ◌<◌, ◌≤◌, min, Bool, true, false, List, [], ◌∷◌, ◌++◌, filter, cond, length, get_or, bit_and, refl, sym, ap, ap₂, ◌∙◌, eq-eqb, append_assoc, arith}
+use Rattle.std.proofs.Common.{◌≡◌, ℕ, zero, suc, ◌+◌, ◌-◌, ◌*◌, ◌/◌, ◌%◌, ◌^◌, ◌<◌, ◌≤◌, min, Bool, true, false, List, [], ◌∷◌, ◌++◌, filter, cond, length, get_or, bit_and, refl, sym, ap, ap₂, ◌∙◌, eq-eqb, arith}
 use Rattle.std.specs.Prelude.{◌==◌, ◌&&◌, if◌then◌else◌}
 use Rattle.std.specs.Int.{bit_at}
-use Rattle.std.proofs.lemmas.List.{append-nil}
 use Rattle.std.proofs.lemmas.List.Elements.{filter-append}
 use Rattle.std.proofs.lemmas.Nat.Bits.{bit_at-zero, shr_and_one}
 use Rattle.def_jacobian.specs.Recovered.{from}
-use Rattle.adj_jacobian_block.specs.Blocks.{has_bit, columns_of}
-use Rattle.adj_jacobian.specs.Parts.{bits_from, columns_from, width_of}
+use Rattle.adj_jacobian_block.specs.Blocks.{columns_of}
+use Rattle.adj_jacobian.specs.Parts.{bits_from, columns_from}
+
+pub length_from : (i n : ℕ) → length (from i n) ≡ n
+length_from i zero = refl
+length_from i (suc n) = ap suc (length_from (suc i) n)
 
 -- a range in two parts
 pub from_parts : (i a m : ℕ) → from i (a + m) ≡ from i a ++ from (i + a) m

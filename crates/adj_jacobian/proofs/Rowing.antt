@@ -1,18 +1,17 @@
 -- Rows of a pattern, block by block.
-use Rattle.std.proofs.Common.{◌≡◌, ℕ, zero, suc, ◌+◌, ◌-◌, ◌*◌, ◌/◌, ◌<◌, ◌≤◌, min, Bool, true, false, List, [], ◌∷◌, ◌++◌, map, length, filter, refl, sym, ap, ap₂, ◌∙◌, eq-eqb, arith}
-use Rattle.std.specs.Prelude.{ℤ, ◌==◌, ◌&&◌}
-use Rattle.std.proofs.lemmas.List.{length-map}
+use Rattle.std.proofs.Common.{◌≡◌, ℕ, ◌+◌, ◌*◌, ◌/◌, ◌<◌, ◌≤◌, min, List, [], ◌∷◌, ◌++◌, map, length, filter, refl, sym, ap, ap₂, ◌∙◌, eq-eqb, arith}
+use Rattle.std.specs.Prelude.{ℤ, ◌&&◌}
 use Rattle.def_meaning.specs.Scene.{Outcome, Done, Trapped, More, Full}
 use Rattle.def_meaning.specs.Units.{Slot, Output}
 use Rattle.def_jacobian.specs.Columns.{Columns}
-use Rattle.def_jacobian.specs.Patterns.{Task, Place, held, columns_at}
-use Rattle.def_jacobian.specs.Recovered.{from, Row, listed, places, rows_at}
+use Rattle.def_jacobian.specs.Patterns.{Place, held, columns_at}
+use Rattle.def_jacobian.specs.Recovered.{from, Row, listed, rows_at}
 use Rattle.adj_jacobian_block.specs.declared.block.Block.{Block}
 use Rattle.adj_jacobian_block.specs.Blocks.{blocks, columns_of, inside_block}
-use Rattle.adj_jacobian_groups.specs.declared.sparsity.Sparsity.{Sparsity}
-use Rattle.adj_jacobian_groups.specs.View.{place_of, rows_of}
+use Rattle.adj_jacobian_groups.specs.declared.sparsity.Cell.{Cell}
+use Rattle.adj_jacobian_groups.specs.View.{place_of}
 use Rattle.adj_jacobian.specs.Parts.{columns_from, width_of, with_block, bare}
-use Rattle.adj_jacobian.specs.Ends.{IsPart, RowsOf, IsPattern, PatternOf}
+use Rattle.adj_jacobian.specs.Ends.{IsPart, RowsOf, WholeRows}
 use Rattle.adj_jacobian.proofs.Ranges.{filter_parts, filter_alike, and_true}
 
 -- a row with the columns of one block more
@@ -69,27 +68,20 @@ built_next k total cells (Trapped t line w) rows new h so_far more = absurd more
 built_next k total cells (More w) rows new h so_far more = absurd more
 built_next k total cells (Full w) rows new h so_far more = absurd more
 
--- all rows of a run that is done
-abbrev pub WholeRows : ℕ → List Place → Outcome (Output (ℤ × Columns)) → List Row → Type 0
-WholeRows total cells (Done out used) rows = rows ≡ rows_at out total cells
-WholeRows total cells (Trapped t line w) rows = ⊥
-WholeRows total cells (More w) rows = ⊥
-WholeRows total cells (Full w) rows = ⊥
+-- after all blocks they are whole
+pub built_whole : (k total : ℕ) (cells : List Place) (q : Outcome (Output (ℤ × Columns))) (rows : List Row) → total ≤ 256 * k → BuiltSo k total cells q rows → WholeRows total cells q rows
+built_whole k total cells (Done out used) rows all so_far = so_far ∙ ap (λ n. rows_at out n cells) (let e : min total (256 * k) ≡ total = omega (arith, all) in e)
+built_whole k total cells (Trapped t line w) rows all so_far = tt
+built_whole k total cells (More w) rows all so_far = tt
+built_whole k total cells (Full w) rows all so_far = tt
 
--- after all blocks, one at least
-pub built_whole : (k total : ℕ) (cells : List Place) (q : Outcome (Output (ℤ × Columns))) (rows : List Row) → 0 < k → total ≤ 256 * k → BuiltSo k total cells q rows → WholeRows total cells q rows
-built_whole k total cells (Done out used) rows some all so_far = so_far ∙ ap (λ n. rows_at out n cells) (let e : min total (256 * k) ≡ total = omega (arith, all) in e)
-built_whole k total cells (Trapped t line w) rows some all so_far = absurd (omega (arith, some, so_far))
-built_whole k total cells (More w) rows some all so_far = absurd (omega (arith, some, so_far))
-built_whole k total cells (Full w) rows some all so_far = absurd (omega (arith, some, so_far))
+-- where there are no cells there is nothing to find
+pub no_rows : (total : ℕ) (cells : List Place) (q : Outcome (Output (ℤ × Columns))) (rows : List Row) → cells ≡ [] → rows ≡ [] → WholeRows total cells q rows
+no_rows total cells (Done out used) rows none e = e ∙ sym (ap (rows_at out total) none)
+no_rows total cells (Trapped t line w) rows none e = tt
+no_rows total cells (More w) rows none e = tt
+no_rows total cells (Full w) rows none e = tt
 
--- the pattern, put together from its columns and its rows
-pub pattern_whole : (p : Task) (outvars : List Bool) (q : Outcome (Output (ℤ × Columns))) (s : Sparsity) (total : ℕ) → map place_of s.cols ≡ places p.vars p.input 0 → total ≡ length s.cols →
-    WholeRows total (places outvars p.input 0) q (rows_of s.rows) → PatternOf p outvars q s
-pattern_whole p outvars (Done out used) s total columns many rows = record {
-  columns = columns;
-  rows = rows ∙ ap (λ n. rows_at out n (places outvars p.input 0)) (many ∙ sym (length-map s.cols place_of) ∙ ap length columns);
-}
-pattern_whole p outvars (Trapped t line w) s total columns many rows = absurd rows
-pattern_whole p outvars (More w) s total columns many rows = absurd rows
-pattern_whole p outvars (Full w) s total columns many rows = absurd rows
+pub no_places : (cells : List Cell) → length cells ≡ 0 → map place_of cells ≡ []
+no_places [] e = refl
+no_places (a ∷ cells) e = absurd (omega (arith, e))

@@ -1,11 +1,11 @@
 -- Walks along an input, dummy by dummy and cell by cell.
 use Rattle.std.proofs.Common.{◌≡◌, ℕ, zero, suc, ◌+◌, ◌<◌, ◌≤◌, Bool, true, false, List, [], ◌∷◌, ◌++◌, map, length, drop, get_or, refl, sym, ap, ap₂, ◌∙◌, append_assoc, arith}
-use Rattle.std.specs.Prelude.{ℤ, pos}
+use Rattle.std.specs.Prelude.{ℤ}
 use Rattle.std.proofs.Math.Seq.{drop-nil}
 use Rattle.std.proofs.lemmas.List.{drop_more, drop_all, append-nil}
 use Rattle.adj_tree.specs.declared.value.Slot.{Slot as CodeSlot}
 use Rattle.def_meaning.specs.Units.{Slot}
-use Rattle.def_jacobian.specs.Inputs.{as_columns, by_columns}
+use Rattle.def_jacobian.specs.Inputs.{by_columns}
 use Rattle.adj_reach.specs.Edges.{flag}
 use Rattle.adj_interp.specs.Concludes.{slot_seen}
 use Rattle.adj_jacobian.specs.Walks.{cells_by, one_by, next_column}

@@ -1,5 +1,5 @@
 -- How a pattern is found, or how the run ends that would find it.
-use Rattle.std.specs.Prelude.{◌≡◌, ◌&&◌, ◌+◌, ◌*◌, ℕ, ℤ, Bool, List, [], map, length, Result, Ok, Err, Some}
+use Rattle.std.specs.Prelude.{◌≡◌, ◌&&◌, ◌+◌, ◌*◌, ℕ, ℤ, Bool, List, map, length, Result, Ok, Err, Some}
 use Rattle.adj_tree.specs.Code.{Procedure}
 use Rattle.adj_tree.specs.declared.value.Trap.{Trap as CodeTrap}
 use Rattle.def_meaning.specs.Scene.{Outcome, Done, Trapped, More, Full}
@@ -12,9 +12,12 @@ use Rattle.adj_interp.specs.declared.stop.Stop.{Stop}
 use Rattle.adj_interp.specs.declared.stop.Stop.TheVariants as stop
 use Rattle.adj_jacobian_block.specs.declared.block.Block.{Block}
 use Rattle.adj_jacobian_block.specs.Blocks.{blocks, columns_of, inside_block}
+use Rattle.adj_jacobian_few.specs.declared.few.Few.{Few}
+use Rattle.adj_jacobian_few.specs.Few.{Tells}
 use Rattle.adj_jacobian_groups.specs.declared.sparsity.Sparsity.{Sparsity}
 use Rattle.adj_jacobian_groups.specs.View.{place_of, rows_of}
 use Rattle.adj_jacobian.specs.Parts.{width_of}
+use Rattle.adj_jacobian.specs.Lists.{list_in}
 
 -- the runs of a unit on an input, on a tape without room
 abbrev pub task_on : List Procedure → Procedure → List Bool → List (Slot ℤ) → ℕ → Task
@@ -64,6 +67,20 @@ abbrev pub PartSo : {A : Type 0} → ℕ → (A → List (Slot Block)) → Outco
 PartSo k seen o (Ok a) = IsPart k o (seen a)
 PartSo k seen o (Err s) = StopsSo o s
 
+-- ---- few columns
+
+-- the slots that a run over few columns leaves: where a cell has a list, it is that of its columns
+abbrev pub IsFew : Outcome (Output (ℤ × Columns)) → List (Slot Few) → Type 0
+IsFew (Done out used) slots = (a : Place) → Tells (list_in slots a) (columns_at out a)
+IsFew (Trapped t line w) slots = ⊥
+IsFew (More w) slots = ⊥
+IsFew (Full w) slots = ⊥
+
+-- a run over few columns ends as the pattern run
+abbrev pub FewSo : {A : Type 0} → (A → List (Slot Few)) → Outcome (Output (ℤ × Columns)) → Result A Stop → Type 0
+FewSo seen o (Ok a) = IsFew o (seen a)
+FewSo seen o (Err s) = StopsSo o s
+
 -- ---- patterns
 
 -- the rows with the columns of one block more
@@ -76,6 +93,17 @@ RowsOf k total rows (Full w) new = ⊥
 abbrev pub RowsSo : {A : Type 0} → ℕ → ℕ → List Row → (A → List Row) → Outcome (Output (ℤ × Columns)) → Result A Stop → Type 0
 RowsSo k total rows seen o (Ok new) = RowsOf k total rows o (seen new)
 RowsSo k total rows seen o (Err s) = StopsSo o s
+
+-- the rows at some cells, where the run is done
+abbrev pub WholeRows : ℕ → List Place → Outcome (Output (ℤ × Columns)) → List Row → Type 0
+WholeRows total cells (Done out used) rows = rows ≡ rows_at out total cells
+WholeRows total cells (Trapped t line w) rows = Unit {0}
+WholeRows total cells (More w) rows = Unit {0}
+WholeRows total cells (Full w) rows = Unit {0}
+
+abbrev pub WholeSo : {A : Type 0} → ℕ → List Place → (A → List Row) → Outcome (Output (ℤ × Columns)) → Result A Stop → Type 0
+WholeSo total cells seen o (Ok rows) = WholeRows total cells o (seen rows)
+WholeSo total cells seen o (Err s) = StopsSo o s
 
 -- the pattern that a run leaves: the cells of the independents, and the rows at the cells of the dependents
 pub record IsPattern (p : Task) (outvars : List Bool) (out : Output (ℤ × Columns)) (s : Sparsity) : Type 0 where

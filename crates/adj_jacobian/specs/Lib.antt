@@ -2,5 +2,6 @@
 pub mod Walks
 pub mod Products
 pub mod Parts
+pub mod Lists
 pub mod Ends
 pub mod Derives

@@ -1,5 +1,5 @@
 -- Rows of a pattern, found block by block.
-use Rattle.std.specs.Prelude.{ℕ, ◌+◌, ◌-◌, ◌*◌, ◌==◌, min, List, [], ◌∷◌, ◌++◌, filter}
+use Rattle.std.specs.Prelude.{ℕ, ◌-◌, ◌*◌, ◌==◌, min, List, [], ◌∷◌, ◌++◌, filter}
 use Rattle.std.specs.Int.{bit_at}
 use Rattle.def_meaning.specs.Units.{Slot}
 use Rattle.def_jacobian.specs.Patterns.{Place, held}

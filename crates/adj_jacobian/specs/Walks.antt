@@ -1,6 +1,7 @@
 -- Walks along an input whose flagged dummies are columns.
-use Rattle.std.specs.Prelude.{ℕ, ◌+◌, ℤ, pos, List, map, Bool, true, false}
+use Rattle.std.specs.Prelude.{ℕ, ◌+◌, ◌==◌, ◌||◌, ℤ, pos, List, [], ◌∷◌, map, Bool, true, false}
 use Rattle.def_jacobian.specs.Inputs.{as_columns}
+use Rattle.def_jacobian.specs.Patterns.{Place}
 
 -- a word that is a column where it is flagged
 abbrev pub one_by : {C : Type 0} → (ℤ → C) → (ℤ → ℕ → C) → Bool → ℤ → ℕ → C
@@ -20,3 +21,8 @@ next_column false j n = j
 -- the tangent of what is no column
 abbrev pub still_tangent : ℤ → ℤ
 still_tangent z = pos 0
+
+-- whether a dummy has some of the cells
+abbrev pub has_dummy : List Place → ℕ → Bool
+has_dummy [] i = false
+has_dummy (a ∷ others) i = (a.dummy == i) || has_dummy others i

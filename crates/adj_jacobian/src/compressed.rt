@@ -7,16 +7,18 @@ ghost use Rattle.def_meaning.specs.Numbers.{words};
 ghost use Rattle.def_meaning.specs.Units.{fits};
 ghost use Rattle.def_jacobian.specs.Patterns.{pattern_run, dual_run};
 ghost use Rattle.def_jacobian.specs.Groups.{seed};
+ghost use Rattle.def_jacobian.specs.Recovered.{places};
+ghost use Rattle.adj_jacobian_groups.specs.View.{place_of};
 ghost use Rattle.adj_interp.specs.Concludes.{slot_seen};
 ghost use Rattle.adj_jacobian.specs.Ends.{task_on};
 ghost use Rattle.adj_jacobian.specs.Derives.{ProductSo, ProductsSo, DerivesSo};
 
+use crate::directions::seeds;
 use crate::entry::Derivative;
 use crate::patterns::pattern;
 use crate::recovery::recover;
-use crate::seeds::directed;
 use adj_interp::{Stop, run_dual};
-use adj_jacobian_groups::{Grouping, groups};
+use adj_jacobian_groups::{Grouping, Sparsity, groups};
 use adj_symbols::Checked;
 use adj_tree::{Head, Items, Memory, Slot, Values};
 use std::alloc::Global;
@@ -43,16 +45,18 @@ fn product(
     program: &Checked,
     head: &Head,
     input: Values,
-    groups: &[u64],
+    sparsity: &Sparsity,
+    grouping: &Grouping,
     group: u64,
     budget: u64,
 ) -> Result<Values, Stop>
     requires there { head.now.unit < length (procedures_of program.now.program) }
     requires fits { (u : Procedure) → slice_get (procedures_of program.now.program) head.now.unit ≡ Some u → fits words u (map slot_seen input) ≡ true }
+    requires columns { map place_of sparsity.now.cols ≡ places head.now.vars (map slot_seen input) 0 }
     ensures { (u : Procedure) → slice_get (procedures_of program.now.program) head.now.unit ≡ Some u
-        → let p = task_on (procedures_of program.now.program) u head.now.vars (map slot_seen input) budget in ProductSo (pattern_run p) (dual_run p (seed groups.now group)) result }
+        → let p = task_on (procedures_of program.now.program) u head.now.vars (map slot_seen input) budget in ProductSo (pattern_run p) (dual_run p (seed grouping.now.group group)) result }
 {
-    let tangents = directed(alloc, groups, group, head.vars.as_slice(), input.as_slice())?;
+    let tangents = seeds(alloc, sparsity, grouping, group, input.as_slice())?;
     match run_dual(alloc, program, head.unit, input, tangents, budget) {
         Ok((_values, tangents)) => Ok(tangents),
         Err(stop) => Err(stop),
@@ -73,19 +77,22 @@ fn products(
     program: &Checked,
     head: &Head,
     input: &[Slot],
+    sparsity: &Sparsity,
     grouping: &Grouping,
     budget: u64,
 ) -> Result<Vec<Values>, Stop>
     requires there { head.now.unit < length (procedures_of program.now.program) }
     requires fits { (u : Procedure) → slice_get (procedures_of program.now.program) head.now.unit ≡ Some u → fits words u (map slot_seen input.now) ≡ true }
+    requires columns { map place_of sparsity.now.cols ≡ places head.now.vars (map slot_seen input.now) 0 }
     ensures { (u : Procedure) → slice_get (procedures_of program.now.program) head.now.unit ≡ Some u
         → ProductsSo (task_on (procedures_of program.now.program) u head.now.vars (map slot_seen input.now) budget) grouping.now.group grouping.now.count (λ ps. ps.items) result }
 {
-    let groups = grouping.group.as_slice();
     let mut all = Vec::new(alloc);
     for group in 0..grouping.count {
         let copy = copies(alloc, input)?;
-        let made = product(alloc, program, head, copy, groups, group, budget)?;
+        let made = product(
+            alloc, program, head, copy, sparsity, grouping, group, budget,
+        )?;
         add_product(&mut all, made)?;
     }
     Ok(all)
@@ -108,7 +115,7 @@ pub fn derivative(
     let values = input.as_slice();
     let sparsity = pattern(alloc, program, head, values, budget)?;
     let grouping = groups(alloc, &sparsity)?;
-    let tangents = products(alloc, program, head, values, &grouping, budget)?;
+    let tangents = products(alloc, program, head, values, &sparsity, &grouping, budget)?;
     let products = tangents.as_slice();
     let jacobian = recover(alloc, &sparsity, &grouping, products)?;
     Ok(Derivative {

@@ -10,10 +10,11 @@ ghost use Rattle.def_jacobian.specs.Recovered.{places};
 ghost use Rattle.adj_interp.specs.Concludes.{slot_seen};
 ghost use Rattle.adj_jacobian_groups.specs.View.{place_of, rows_of};
 ghost use Rattle.adj_jacobian.specs.Parts.{bare};
-ghost use Rattle.adj_jacobian.specs.Ends.{task_on, RowsSo, PatternSo};
+ghost use Rattle.adj_jacobian.specs.Ends.{task_on, RowsSo, WholeSo, PatternSo};
 
-use crate::blocks::block_run;
+use crate::blocks::{block_run, few_run};
 use crate::cells::places;
+use crate::listed::{all_rows, open_cells};
 use crate::rows::rows_with;
 use adj_interp::Stop;
 use adj_jacobian_groups::{Cell, Columns, Row, Sparsity};
@@ -66,6 +67,50 @@ fn next_rows(
     Ok(new)
 }
 
+// The rows of some cells, block by block.
+fn rows_by_blocks(
+    alloc: Global,
+    program: &Checked,
+    head: &Head,
+    input: &[Slot],
+    budget: u64,
+    total: u64,
+    cells: &[Cell],
+) -> Result<Vec<Row>, Stop>
+    requires there { head.now.unit < length (procedures_of program.now.program) }
+    requires fits { (u : Procedure) → slice_get (procedures_of program.now.program) head.now.unit ≡ Some u → fits words u (map slot_seen input.now) ≡ true }
+    ensures { (u : Procedure) → slice_get (procedures_of program.now.program) head.now.unit ≡ Some u
+        → WholeSo total (map place_of cells.now) (λ rows. rows_of rows.items) (pattern_run (task_on (procedures_of program.now.program) u head.now.vars (map slot_seen input.now) budget)) result }
+{
+    let mut rows = bare_rows(alloc, cells)?;
+    for block in 0..blocks_for(total) {
+        rows = next_rows(alloc, program, head, input, budget, block, total, rows)?;
+    }
+    Ok(rows)
+}
+
+// The rows of those cells that a run left open, by runs of blocks; no run where there is none.
+fn open_rows(
+    alloc: Global,
+    program: &Checked,
+    head: &Head,
+    input: &[Slot],
+    budget: u64,
+    total: u64,
+    cells: &[Cell],
+) -> Result<Vec<Row>, Stop>
+    requires there { head.now.unit < length (procedures_of program.now.program) }
+    requires fits { (u : Procedure) → slice_get (procedures_of program.now.program) head.now.unit ≡ Some u → fits words u (map slot_seen input.now) ≡ true }
+    ensures { (u : Procedure) → slice_get (procedures_of program.now.program) head.now.unit ≡ Some u
+        → WholeSo total (map place_of cells.now) (λ rows. rows_of rows.items) (pattern_run (task_on (procedures_of program.now.program) u head.now.vars (map slot_seen input.now) budget)) result }
+{
+    if cells.is_empty() {
+        Ok(Vec::new(alloc))
+    } else {
+        rows_by_blocks(alloc, program, head, input, budget, total, cells)
+    }
+}
+
 /// The pattern of the derivative of a unit of a checked program on an input that fits it: the cells of its independents, and for each cell of its
 /// dependents the columns on which it can depend along the path of the run. The run may take so many statements. A trap, and more to do, come as
 /// in the dual runs. A dummy whose number passes 32 bits counts as too large for memory.
@@ -88,11 +133,12 @@ pub fn pattern(
     let columns = cols.as_slice();
     let total = columns.len() as u64;
     let dependents = cells.as_slice();
-    let mut rows = bare_rows(alloc, dependents)?;
-    let blocks = blocks_for(total);
-    for block in 0..blocks {
-        rows = next_rows(alloc, program, head, input, budget, block, total, rows)?;
-    }
+    let slots = few_run(alloc, program, head, input, budget)?;
+    let kept = slots.as_slice();
+    let unlisted = open_cells(alloc, kept, dependents)?;
+    let left = unlisted.as_slice();
+    let others = open_rows(alloc, program, head, input, budget, total, left)?;
+    let rows = all_rows(alloc, kept, dependents, others)?;
     Ok(Sparsity {
         cols,
         rows: Items::new(rows),

@@ -3,3 +3,4 @@ pub mod Heads
 pub mod Placing
 pub mod Endings
 pub mod Answered
+pub mod Roomless

@@ -95,3 +95,7 @@ AnswersSized false r vars outvars bytes a = TextIs mode.Source (λ found. Answer
 -- the answer of `jacobian`
 abbrev pub AnswersJacobian : Asked → (vars outvars : List (List ℕ)) → List ℕ → Answer → Type 0
 AnswersJacobian r vars outvars bytes a = AnswersSized (nat_lt most_bytes (length bytes)) r vars outvars bytes a
+
+-- no answer has the status of a full tape
+abbrev pub NeverFull : Type 0
+NeverFull = (r : Asked) (vars outvars : List (List ℕ)) (bytes : List ℕ) (a : Answer) → AnswersJacobian r vars outvars bytes a → a.status ≢ 6

@@ -13,7 +13,8 @@ use Rattle.adj_jacobian_block.specs.declared.block.Block.{Block}
 use Rattle.adj_jacobian_block.specs.Blocks.{blocks, marked_by, own_in, inside_block}
 use Rattle.adj_jacobian_block.proofs.Seen.{blocks_do, own_is}
 use Rattle.adj_jacobian.specs.Ends.{task_on}
-use Rattle.adj_jacobian.proofs.Parting.{block_fits, part_ends}
+use Rattle.adj_jacobian.proofs.Parting.{part_ends}
+use Rattle.adj_jacobian.proofs.Starting.{block_fits}
 use Rattle.adj_jacobian.proofs.blocks.block_run.Goals as goal
 
 -- the slots of an entry, as they are seen

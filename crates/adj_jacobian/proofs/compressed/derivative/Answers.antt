@@ -1,4 +1,4 @@
-use Rattle.std.proofs.Common.{rules, ◌≡◌, List, map, length, true, sym, ap, refl, subst, ◌∙◌}
+use Rattle.std.proofs.Common.{rules, ◌≡◌, List, map, true, sym, ap, refl, subst, ◌∙◌}
 use Rattle.adj_tree.specs.declared.value.Slot.{Slot as CodeSlot}
 use Rattle.std.specs.Prelude.{Err}
 use Rattle.adj_tree.specs.View.{procedures_of}
@@ -11,7 +11,7 @@ use Rattle.adj_jacobian_groups.specs.View.{rows_of}
 use Rattle.adj_jacobian.specs.Products.{tangent_in}
 use Rattle.adj_jacobian.specs.Ends.{task_on, StopsSo, PatternOf}
 use Rattle.adj_jacobian.specs.Derives.{AreProducts}
-use Rattle.adj_jacobian.proofs.Derived.{numbered, member_at, derived}
+use Rattle.adj_jacobian.proofs.Derived.{numbered, member_at, columns_told, derived}
 use Rattle.adj_jacobian.proofs.compressed.derivative.Goals as goal
 
 pub pattern-requires-clause-fits : goal.pattern-requires-clause-fits
@@ -19,6 +19,13 @@ pattern-requires-clause-fits c = λ u at. subst (λ (vs : List CodeSlot). fits w
 
 pub products-requires-clause-fits : goal.products-requires-clause-fits
 products-requires-clause-fits c = λ u at. subst (λ (vs : List CodeSlot). fits words u (map slot_seen vs) ≡ true) (sym c.as_slice-values.ensures.members) (c.requires.fits u at)
+
+pub products-requires-clause-columns : goal.products-requires-clause-columns
+products-requires-clause-columns c =
+    let units = procedures_of c.args.program.now.program in
+    let m = member_at units c.args.head.now.unit c.requires.there in
+    let p = task_on units m.member c.args.head.now.vars (map slot_seen c.as_slice-values.result.now) c.args.budget in
+    columns_told p c.args.head.now.outvars (pattern_run p) c.in_ok-sparsity.sparsity (c.in_ok-sparsity.ensures m.member m.at)
 
 pub groups-requires : goal.groups-requires
 groups-requires c =

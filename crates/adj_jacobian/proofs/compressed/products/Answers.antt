@@ -6,7 +6,9 @@ use Rattle.def_meaning.specs.Numbers.{words}
 use Rattle.def_meaning.specs.Units.{fits}
 use Rattle.def_jacobian.specs.Groups.{seed}
 use Rattle.def_jacobian.specs.Patterns.{pattern_run, dual_run, tangent_of}
+use Rattle.def_jacobian.specs.Recovered.{places}
 use Rattle.adj_interp.specs.Concludes.{slot_seen}
+use Rattle.adj_jacobian_groups.specs.View.{place_of}
 use Rattle.adj_jacobian.specs.Ends.{task_on, StopsSo}
 use Rattle.adj_jacobian.specs.Derives.{AreProducts}
 use Rattle.adj_jacobian.proofs.Derived.{products_more}
@@ -18,10 +20,13 @@ loop-group-init c = λ u at. record { each = ap length c.new-all.ensures.items; 
 pub product-requires-clause-fits : goal.product-requires-clause-fits
 product-requires-clause-fits c = λ u at. subst (λ (vs : List CodeSlot). fits words u (map slot_seen vs) ≡ true) (sym c.in_ok-copy.ensures) (c.requires.fits u at)
 
+pub product-requires-clause-columns : goal.product-requires-clause-columns
+product-requires-clause-columns c = subst (λ (vs : List CodeSlot). map place_of c.args.sparsity.now.cols ≡ places c.args.head.now.vars (map slot_seen vs) 0) (sym c.in_ok-copy.ensures) c.requires.columns
+
 pub loop-group-preserved : goal.loop-group-preserved
 loop-group-preserved c = λ u at.
     let units = procedures_of c.args.program.now.program in
-    let groups = c.as_slice-groups.result.now in
+    let groups = c.args.grouping.now.group in
     let k = c.loop-group.group in
     let p = task_on units u c.args.head.now.vars (map slot_seen c.args.input.now) c.args.budget in
     subst (λ items. AreProducts p groups (k + 1) items) (sym c.in_ok-add_product.ensures)
@@ -42,4 +47,4 @@ returns c = λ u at.
     let test = c.loop-group-test.false in
     let past = c.loop-group.auto.group-end in
     let same : c.loop-group.group ≡ c.args.grouping.now.count = omega (arith, test, past) in
-    subst (λ z. z) (λ i. AreProducts p (c.as_slice-groups.ensures.members i) (same i) c.loop-group.all.items) (c.loop-group.invariant u at)
+    subst (λ n. AreProducts p c.args.grouping.now.group n c.loop-group.all.items) same (c.loop-group.invariant u at)

@@ -11,4 +11,4 @@ use Rattle.adj_jacobian.proofs.compressed.products.Given as goal
 abbrev pub invariant-loop-group : goal.invariant-loop-group
 invariant-loop-group l =
     (u : Procedure) → slice_get (procedures_of l.program.program) l.head.unit ≡ Some u
-    → AreProducts (task_on (procedures_of l.program.program) u l.head.vars (map slot_seen l.input) l.budget) l.groups l.group l.all.items
+    → AreProducts (task_on (procedures_of l.program.program) u l.head.vars (map slot_seen l.input) l.budget) l.grouping.group l.group l.all.items

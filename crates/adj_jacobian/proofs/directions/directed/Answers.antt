@@ -8,7 +8,7 @@ use Rattle.adj_reach.specs.Edges.{flag}
 use Rattle.adj_interp.specs.Concludes.{slot_seen}
 use Rattle.adj_jacobian.specs.Walks.{cells_by, next_column, still_tangent}
 use Rattle.adj_jacobian.proofs.Walking.{one_more, nothing_left, dummy_turn, no_dummy}
-use Rattle.adj_jacobian.proofs.seeds.directed.Goals as goal
+use Rattle.adj_jacobian.proofs.directions.directed.Goals as goal
 
 pub loop-i-preserved : goal.loop-i-preserved
 loop-i-preserved c =

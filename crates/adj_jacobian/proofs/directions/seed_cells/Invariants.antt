@@ -2,7 +2,7 @@
 use Rattle.std.proofs.Common.{◌≡◌, ◌+◌, ◌++◌, drop}
 use Rattle.def_jacobian.specs.Groups.{seed}
 use Rattle.adj_jacobian.specs.Walks.{cells_by, still_tangent}
-use Rattle.adj_jacobian.proofs.seeds.seed_cells.Given as goal
+use Rattle.adj_jacobian.proofs.directions.seed_cells.Given as goal
 
 abbrev pub invariant-loop-j : goal.invariant-loop-j
 invariant-loop-j l =

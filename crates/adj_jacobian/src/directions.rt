@@ -1,13 +1,16 @@
 //! Directions of groups: tangents that are 1 at the columns of a group.
 
-ghost use Rattle.std.specs.Prelude.{◌≡◌, ◌+◌, ◌<◌, ◌^◌, ℤ, IfOk, length, map};
+ghost use Rattle.std.specs.Prelude.{◌≡◌, ◌+◌, ◌<◌, ◌^◌, ◌==◌, ◌||◌, ℕ, ℤ, Bool, List, IfOk, length, map};
 ghost use Rattle.def_jacobian.specs.Inputs.{as_columns, tangents};
 ghost use Rattle.def_jacobian.specs.Groups.{in_group, seed};
 ghost use Rattle.adj_reach.specs.Edges.{flag};
 ghost use Rattle.adj_interp.specs.Concludes.{slot_seen};
-ghost use Rattle.adj_jacobian.specs.Walks.{one_by, cells_by, next_column, still_tangent};
+ghost use Rattle.def_jacobian.specs.Recovered.{places};
+ghost use Rattle.adj_jacobian_groups.specs.View.{place_of};
+ghost use Rattle.adj_jacobian.specs.Walks.{one_by, cells_by, has_dummy, next_column, still_tangent};
 
 use crate::walk::next_column;
+use adj_jacobian_groups::{Cell, Grouping, Sparsity};
 use adj_reach::flag_at;
 use adj_tree::{Items, Memory, Slot, Values};
 use std::alloc::Global;
@@ -71,9 +74,9 @@ fn seed_slot(
     Ok((slot, next))
 }
 
-/// The direction of a group: tangents with the extents of the input, 1 at the cells of the group's columns and 0 elsewhere. The columns are the
-/// cells of the flagged dummies.
-pub fn directed(
+// The direction of a group: tangents with the extents of the input, 1 at the cells of the group's columns and 0 elsewhere. The columns are the
+// cells of the flagged dummies.
+fn directed(
     alloc: Global,
     groups: &[u64],
     group: u64,
@@ -91,4 +94,45 @@ pub fn directed(
         first = next;
     }
     Ok(Items::new(slots))
+}
+
+// Flags a dummy, where there is one of that number.
+fn flag_dummy(flags: &mut [bool], dummy: u32)
+    ensures count { length flags.new ≡ length flags.old }
+    ensures flagged { (i : ℕ) → i < length flags.old → flag flags.new i ≡ (dummy == i || flag flags.old i) }
+{
+    let dummy = dummy as usize;
+    if dummy < flags.len() {
+        flags[dummy] = true;
+    }
+}
+
+// Which of so many dummies have columns.
+fn flags_of(alloc: Global, columns: &[Cell], count: usize) -> Result<Vec<bool>, Memory>
+    ensures count { IfOk result (λ flags. length flags.items ≡ count) }
+    ensures flagged { IfOk result (λ flags. (i : ℕ) → i < count → flag flags.items i ≡ has_dummy (map place_of columns.now) i) }
+{
+    let mut flags = vec![in alloc; false; count]?;
+    for column in columns {
+        flag_dummy(flags.as_mut_slice(), column.dummy);
+    }
+    Ok(flags)
+}
+
+/// The direction of a group of a pattern's columns: tangents with the extents of the input, 1 at the cells of the group's columns and 0 elsewhere.
+/// The columns are those of a pattern of the input: all cells of some dummies, in the order of dummies and of storage.
+pub fn seeds(
+    alloc: Global,
+    pattern: &Sparsity,
+    grouping: &Grouping,
+    group: u64,
+    input: &[Slot],
+) -> Result<Values, Memory>
+    ensures { IfOk result (λ v. (vars : List Bool) → map place_of pattern.now.cols ≡ places vars (map slot_seen input.now) 0 → map slot_seen v ≡ tangents (seed grouping.now.group group) vars (map slot_seen input.now)) }
+{
+    let columns = pattern.cols.as_slice();
+    let groups = grouping.group.as_slice();
+    let flags = flags_of(alloc, columns, input.len())?;
+    let vars = flags.as_slice();
+    directed(alloc, groups, group, vars, input)
 }

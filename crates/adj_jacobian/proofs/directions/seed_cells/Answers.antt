@@ -4,7 +4,7 @@ use Rattle.std.proofs.lemmas.Int.{to_z-of_z}
 use Rattle.def_jacobian.specs.Groups.{seed}
 use Rattle.adj_jacobian.specs.Walks.{one_by, cells_by, still_tangent}
 use Rattle.adj_jacobian.proofs.Walking.{one_more, nothing_left, cell_turn, no_cell}
-use Rattle.adj_jacobian.proofs.seeds.seed_cells.Goals as goal
+use Rattle.adj_jacobian.proofs.directions.seed_cells.Goals as goal
 
 pub loop-j-preserved : goal.loop-j-preserved
 loop-j-preserved c =

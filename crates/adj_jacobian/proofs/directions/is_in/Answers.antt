@@ -1,7 +1,7 @@
 use Rattle.std.proofs.Common.{sym, ap, ◌∙◌}
 use Rattle.std.specs.Prelude.{◌==◌}
 use Rattle.adj_jacobian.proofs.Holding.{in_group_at, in_group_past}
-use Rattle.adj_jacobian.proofs.seeds.is_in.Goals as goal
+use Rattle.adj_jacobian.proofs.directions.is_in.Goals as goal
 
 pub returns-in-Some : goal.returns-in-Some
 returns-in-Some c =

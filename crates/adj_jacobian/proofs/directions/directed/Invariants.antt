@@ -4,7 +4,7 @@ use Rattle.def_jacobian.specs.Inputs.{by_columns, tangents}
 use Rattle.def_jacobian.specs.Groups.{seed}
 use Rattle.adj_interp.specs.Concludes.{slot_seen}
 use Rattle.adj_jacobian.specs.Walks.{still_tangent}
-use Rattle.adj_jacobian.proofs.seeds.directed.Given as goal
+use Rattle.adj_jacobian.proofs.directions.directed.Given as goal
 
 abbrev pub invariant-loop-i : goal.invariant-loop-i
 invariant-loop-i l =

@@ -5,15 +5,14 @@ use Rattle.def_jacobian.specs.Inputs.{by_columns}
 use Rattle.adj_reach.specs.Edges.{flag}
 use Rattle.adj_interp.specs.Concludes.{slot_seen}
 use Rattle.adj_interp.specs.Inputs.{entry_seen}
-use Rattle.adj_jacobian_block.specs.declared.block.Block.{Block}
-use Rattle.adj_jacobian_block.specs.Blocks.{blocks, own_in}
 use Rattle.adj_jacobian.specs.Walks.{cells_by, next_column}
 use Rattle.adj_jacobian.proofs.Walking.{one_more, nothing_left, dummy_turn, no_dummy}
-use Rattle.adj_jacobian.proofs.blocks.block_slots.Goals as goal
+use Rattle.adj_jacobian.proofs.start.start_slots.Goals as goal
 
 pub loop-i-preserved : goal.loop-i-preserved
-loop-i-preserved c =
-    let own = own_in c.args.block in
+loop-i-preserved g c =
+    let of_word = g.N.Number.numbers.of_word in
+    let own = g.S.Start.own c.args.start.now in
     let vars = c.args.vars.now in
     let vs = c.args.input.now in
     let slots = c.loop-i.slots.items in
@@ -22,18 +21,20 @@ loop-i-preserved c =
     let v = c.index-input-i.result in
     let test = c.loop-i-test.true in
     let lt : i < length vs = omega (arith, test) in
-    let x : Slot Block = record { shape = record { rows = v.rows; cols = v.cols }; cells = cells_by blocks.of_word own (flag vars i) v.cells first } in
+    let x : Slot g.row.N.Denot = record { shape = record { rows = v.rows; cols = v.cols }; cells = cells_by of_word own (flag vars i) v.cells first } in
     let slot : entry_seen c.in_ok-slot.slot ≡ x =
-    c.in_ok-slot.ensures.slot ∙ ap (λ f. record { shape = record { rows = v.rows; cols = v.cols }; cells = cells_by blocks.of_word own f v.cells first }) c.flag_at-marked.ensures in
+    c.in_ok-slot.ensures.slot ∙ ap (λ f. record { shape = record { rows = v.rows; cols = v.cols }; cells = cells_by of_word own f v.cells first }) c.flag_at-marked.ensures in
     let next : c.in_ok-slot.next ≡ next_column (flag vars i) first (length v.cells) =
     c.in_ok-slot.ensures.next ∙ ap (λ f. next_column f first (length v.cells)) c.flag_at-marked.ensures in
     let new : map entry_seen c.push.new.self.items ≡ map entry_seen slots ++ x ∷ [] =
     ap (map entry_seen) c.in_ok-push.ensures.items ∙ map_push entry_seen slots c.in_ok-slot.slot ∙ ap (λ z. map entry_seen slots ++ z ∷ []) slot in
-    (λ k. new k ++ by_columns blocks.of_word own (drop (i + 1) vars) (map slot_seen (drop (i + 1) vs)) (next k))
-    ∙ one_more (map entry_seen slots) x _ _ _ (dummy_turn blocks.of_word own vars vs i first v lt c.index-input-i.is) c.loop-i.invariant
+    (λ k. new k ++ by_columns of_word own (drop (i + 1) vars) (map slot_seen (drop (i + 1) vs)) (next k))
+    ∙ one_more (map entry_seen slots) x _ _ _ (dummy_turn of_word own vars vs i first v lt c.index-input-i.is) c.loop-i.invariant
 
 pub returns : goal.returns
-returns c =
+returns g c =
+    let of_word = g.N.Number.numbers.of_word in
+    let own = g.S.Start.own c.args.start.now in
     let test = c.loop-i-test.false in
     let past : length c.args.input.now ≤ c.loop-i.i = omega (arith, test) in
-    nothing_left (map entry_seen c.loop-i.slots.items) _ _ (no_dummy blocks.of_word (own_in c.args.block) c.args.vars.now c.args.input.now c.loop-i.i c.loop-i.first past) c.loop-i.invariant
+    nothing_left (map entry_seen c.loop-i.slots.items) _ _ (no_dummy of_word own c.args.vars.now c.args.input.now c.loop-i.i c.loop-i.first past) c.loop-i.invariant
