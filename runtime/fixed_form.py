@@ -99,6 +99,10 @@ def has_open(byte, code):
     return False
 
 
+# the classes of what stands before the executable statements of a unit
+HEADINGS = ("SUBROUTINE", "IMPLICITNONE", "INTEGER", "COMMON")
+
+
 def class_of(code):
     """The class of a statement (docs/LANGUAGE.md, "Statements")."""
     do = re.match(r"DO\d*,?[A-Z]\w*=", code)
@@ -110,7 +114,7 @@ def class_of(code):
         return "ASSIGN"
     if code in ("CONTINUE", "RETURN", "END", "ENDIF", "ENDDO", "ELSE", "IMPLICITNONE"):
         return code
-    for start, name in (("ELSEIF(", "ELSEIF"), ("DOWHILE(", "WHILE"), ("SUBROUTINE", "SUBROUTINE"), ("INTEGER", "INTEGER"), ("CALL", "CALL")):
+    for start, name in (("ELSEIF(", "ELSEIF"), ("DOWHILE(", "WHILE"), ("SUBROUTINE", "SUBROUTINE"), ("INTEGER", "INTEGER"), ("COMMON/", "COMMON"), ("CALL", "CALL")):
         if code.startswith(start):
             return name
     raise ValueError(code)

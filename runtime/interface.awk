@@ -28,16 +28,13 @@ function write_interface(lower,    dummies, count, k, i) {
 }
 
 function is_heading(text) {
-  return text == "IMPLICITNONE" || is_declaration(text)
+  return text == "IMPLICITNONE" || is_declaration(text) || is_common(text)
 }
 
-function look_at_items(text,    item, base) {
-  sub(/^INTEGER(\*8)?/, "", text)
-  while (match(text, /^[A-Z][A-Z0-9_]*(\([A-Z0-9_,]*\))?,?/)) {
-    item = substr(text, 1, RLENGTH)
-    text = substr(text, RLENGTH + 1)
-    sub(/,$/, "", item)
-    base = item
-    if (sub(/\(.*/, "", base)) extents[base] = substr(item, length(base) + 1)
+function look_at_items(text,    items, count, k, base) {
+  count = items_of(text, items)
+  for (k = 1; k <= count; k++) {
+    base = items[k]
+    if (sub(/\(.*/, "", base)) extents[base] = substr(items[k], length(base) + 1)
   }
 }

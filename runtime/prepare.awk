@@ -8,7 +8,9 @@ BEGIN {
     read_text(ARGV[text])
     find_sources()
     path = path_for(ARGV[text])
-    for (unit = 1; unit <= units; unit++) take_unit()
+    split("", left_out); split("", renamed)
+    for (unit = 1; unit <= units; unit++) look_for_repeat()
+    for (unit = 1; unit <= units; unit++) if (!(unit in left_out)) write_unit()
     close(path)
     print path
   }
@@ -40,18 +42,45 @@ function find_sources(    u) {
 
 # An adjoint, or a tangent, repeats the units that it calls as they are, in another form. They are left out where a model before it has them, and so is
 # a unit that an earlier text has in the same form. Two adjoints, or two tangents, of one unit needn't be the same.
-function take_unit(    this, whole, i) {
+# A unit of a model that uses COMMON blocks is repeated with their members as dummies. It can't stand for the model's, so it gets a name of its own.
+function look_for_repeat(    this, whole, i) {
   this = name[unit]
   for (i = first[unit]; i <= last[unit]; i++) whole = whole bare[i] "\n"
   if (!(this in home)) {
     home[this] = text
+    heading[this] = bare[first[unit]]
     form[this] = whole
-    write_unit()
   } else if (home[this] == text) {
     fail("the unit " this " is twice in " ARGV[text])
-  } else if (form[this] != whole && (!(home[this] in made_from) || source_of(this) != "")) {
+  } else if (form[this] == whole) {
+    left_out[unit] = 1
+  } else if (!(home[this] in made_from) || source_of(this) != "") {
     fail("the unit " this " is in " ARGV[home[this]] " and in " ARGV[text] ", with other statements")
+  } else if (heading[this] == bare[first[unit]]) {
+    left_out[unit] = 1
+  } else {
+    rename_unit(this, whole)
   }
+}
+
+# The name of a unit in this text, whose dummies aren't those of the model's unit. Where an earlier text has the same unit, it has that one's name.
+function rename_unit(this, whole,    fresh) {
+  if (whole in with_members) {
+    left_out[unit] = 1
+  } else {
+    fresh = this "_M"
+    while (is_taken(fresh)) fresh = fresh "M"
+    home[fresh] = text
+    with_members[whole] = fresh
+  }
+  renamed[this] = with_members[whole]
+}
+
+# Whether a unit has a name, or a statement of the text may have it.
+function is_taken(fresh,    i) {
+  if (fresh in home) return 1
+  for (i = 1; i <= statements; i++) if (index(bare[i], fresh)) return 1
+  return 0
 }
 
 # While a unit runs, a local of it holds the tape's height: a compiler can keep it in a register. It is written to the module
@@ -88,8 +117,10 @@ function look_at_unit(    i, parts, count, k, seen, calls, name, called) {
   last_declaration = first[unit]
   own = "ADRT"
   split("", seen); split("", called)
+  # members of blocks aren't locals
+  for (i = first[unit] + 1; i <= last[unit]; i++) if (is_common(bare[i])) look_at_members(bare[i])
   for (i = first[unit] + 1; i <= last[unit]; i++) {
-    if (bare[i] == "IMPLICITNONE" || is_declaration(bare[i])) {
+    if (bare[i] == "IMPLICITNONE" || is_declaration(bare[i]) || is_common(bare[i])) {
       last_declaration = i
       if (is_declaration(bare[i])) look_at_declaration(bare[i])
     }
@@ -97,7 +128,7 @@ function look_at_unit(    i, parts, count, k, seen, calls, name, called) {
     name = called_unit(bare[i])
     if (name != "" && !(name in called)) {
       called[name] = 1
-      externals = externals "," name
+      externals = externals "," (name in renamed ? renamed[name] : name)
     }
     if (match(bare[i], /CALL(PUSH|POP)(INTEGER8ARRAY|INTEGER8|CONTROL1B)\(/)) seen[substr(bare[i], RSTART + 4, RLENGTH - 5)] = 1
   }
@@ -107,22 +138,27 @@ function look_at_unit(    i, parts, count, k, seen, calls, name, called) {
   if (has_words) uses = uses "," own "W=>HERE," own "G=>HEIGHT," own "R=>ROOM," own "U=>TAPE_UP," own "D=>TAPE_DOWN"
 }
 
+function look_at_members(text,    items, count, k) {
+  count = items_of(text, items)
+  for (k = 1; k <= count; k++) {
+    sub(/\(.*/, "", items[k])
+    dummy[items[k]] = 1
+  }
+}
+
 # The local arrays of a declaration. The extents of a local are numbers.
-function look_at_declaration(text,    item, extents, words) {
-  sub(/^INTEGER(\*8)?/, "", text)
-  while (match(text, /^[A-Z][A-Z0-9_]*(\([A-Z0-9_,]*\))?,?/)) {
-    item = substr(text, 1, RLENGTH)
-    text = substr(text, RLENGTH + 1)
-    sub(/,$/, "", item)
-    if (item !~ /\(/) continue
-    split(item, extents, /[(),]/)
+function look_at_declaration(text,    items, count, k, extents, words) {
+  count = items_of(text, items)
+  for (k = 1; k <= count; k++) {
+    if (items[k] !~ /\(/) continue
+    split(items[k], extents, /[(),]/)
     if (extents[1] in dummy) continue
     words = extents[2] * (extents[3] == "" ? 1 : extents[3])
     if (words <= in_one && kept + words <= on_stack) {
       kept += words
     } else {
       long[extents[1]] = extents[3] == "" ? "(:)" : "(:,:)"
-      allocations = allocations "      ALLOCATE(" item ",SOURCE=0_8)\n"
+      allocations = allocations "      ALLOCATE(" items[k] ",SOURCE=0_8)\n"
     }
   }
 }
@@ -149,17 +185,27 @@ function write_statement(i,    text, label) {
   } else if (match(text, /^CALLADZERO8\(/)) {
     print label inner(text, RLENGTH) "=0" > path
   } else if (!has_words) {
-    print statement[i] > path
+    print with_names(i) > path
   } else if (text == "END" || text == "RETURN") {
     put(own "G=" own "H")
     print statement[i] > path
   } else if (calls_a_unit(text)) {
     put(own "G=" own "H")
-    print statement[i] > path
+    print with_names(i) > path
     put(own "H=" own "G")
   } else {
-    print statement[i] > path
+    print with_names(i) > path
   }
+}
+
+# A statement, with the new name of the unit that it begins or calls.
+function with_names(i,    this, text) {
+  text = bare[i]
+  this = i == first[unit] ? name[unit] : called_unit(text)
+  if (!(this in renamed)) return statement[i]
+  # the name stands right before the last part of the statement that begins with it
+  if (i != first[unit]) return substr(statement[i], 1, 6) substr(text, 1, length(text) - length(call_text)) "CALL " renamed[this] substr(call_text, 5 + length(this))
+  return substr(statement[i], 1, 6) "SUBROUTINE " renamed[this] substr(text, 11 + length(this))
 }
 
 # The unit that a statement calls, alone or within an IF of one statement, or nothing.
@@ -195,18 +241,15 @@ function inner(text, before) {
 }
 
 # A declaration; arrays that are too long for the stack are allocated.
-function write_declaration(text,    item, short, base) {
-  sub(/^INTEGER(\*8)?/, "", text)
-  while (match(text, /^[A-Z][A-Z0-9_]*(\([A-Z0-9_,]*\))?,?/)) {
-    item = substr(text, 1, RLENGTH)
-    text = substr(text, RLENGTH + 1)
-    sub(/,$/, "", item)
-    base = item
+function write_declaration(text,    items, count, k, short, base) {
+  count = items_of(text, items)
+  for (k = 1; k <= count; k++) {
+    base = items[k]
     sub(/\(.*/, "", base)
     if (base in long) {
       put("INTEGER*8,ALLOCATABLE::" base long[base])
     } else {
-      short = short "," item
+      short = short "," items[k]
     }
   }
   if (short != "") put("INTEGER*8 " substr(short, 2))

@@ -42,6 +42,23 @@ function add_statement(joined,    name_end) {
   last[units] = statements
 }
 
+# The items of a declaration or of a COMMON statement, each a name with its extents or without: `items` has them, and their number is given back.
+function items_of(text, items,    count) {
+  count = 0
+  sub(/^(INTEGER(\*8)?|COMMON\/[A-Z0-9_]*\/)/, "", text)
+  while (match(text, /^[A-Z][A-Z0-9_]*(\([A-Z0-9_,]*\))?,?/)) {
+    items[++count] = substr(text, 1, RLENGTH)
+    sub(/,$/, "", items[count])
+    text = substr(text, RLENGTH + 1)
+  }
+  return count
+}
+
+# Whether a statement names members of a block; nothing else begins so in a text of the language.
+function is_common(text) {
+  return text ~ /^COMMON\/[A-Z][A-Z0-9_]*\//
+}
+
 function is_declaration(text) {
   return text ~ /^INTEGER(\*8)?[A-Z]/ && text !~ /=/
 }

@@ -159,6 +159,12 @@ module adjoint_schedule
     integer(word) :: low, high, split, repetitions
   end type frame
 
+  ! Steps from a stored place on: as many as the snapshots turn in so many repetitions, and extra ones, too few for a repetition more. `stores` is how
+  ! many snapshots the extra steps take with one less.
+  type :: row
+    integer(word) :: snapshots, repetitions, extra, stores
+  end type row
+
   ! What is left to be given: frames from the outermost, and the part from `low` to `high` to go on with.
   type :: schedule
     integer(word) :: steps = -1, snapshots = 0, given = 0
@@ -173,6 +179,8 @@ module adjoint_schedule
   type(schedule), allocatable, target, save :: reversals(:)
   integer, save :: open = 0
   type(schedule), target, save :: outside
+  ! that of the innermost open reversal, or the one for such actions
+  type(schedule), pointer, save :: current => outside
 
   ! betas(s, r) = C(s+r, s) for short reversals, by Pascal's rule: it is 0 until it is asked for first
   integer(word), parameter :: short = 63
@@ -203,38 +211,50 @@ contains
       call move_alloc(wider, reversals)
     end if
     open = open + 1
-    call begin_schedule(reversals(open), steps, snapshots)
+    current => reversals(open)
+    call begin_schedule(current, steps, snapshots)
   end subroutine open_reversal
 
   subroutine close_reversal()
     if (open == 0) call stop_with('ADEND ends a reversal where none is open')
     open = open - 1
+    current => outside
+    if (open > 0) current => reversals(open)
   end subroutine close_reversal
 
-  ! The k-th action, from 1, with its two places. Reversals ask for their actions one after the other; where this isn't
-  ! the next one of its schedule, the schedule begins anew.
+  ! The k-th action, from 1, with its two places. Reversals ask for their actions one after the other.
   subroutine give_action(steps, snapshots, k, action, from, to)
     integer(word), intent(in) :: steps, snapshots, k
     integer(word), intent(out) :: action, from, to
-    type(schedule), pointer :: current
-    character(60) :: why
-    current => outside
-    if (open > 0) then
-      if (reversals(open)%steps == steps .and. reversals(open)%snapshots == snapshots) current => reversals(open)
-    end if
-    if (current%steps /= steps .or. current%snapshots /= snapshots) then
-      call check_range(steps, snapshots)
-      call begin_schedule(current, steps, snapshots)
-    end if
-    if (k <= current%given) call begin_schedule(current, steps, snapshots)
-    do while (current%given < k .and. current%stage /= all_given)
+    if (k == current%given + 1 .and. current%stage /= all_given .and. is_of(current, steps, snapshots)) then
       call next_action(current, action, from, to)
-    end do
-    if (k < 1 .or. current%given < k) then
+    else
+      call give_other(steps, snapshots, k, action, from, to)
+    end if
+  end subroutine give_action
+
+  ! An action that isn't the next one of the innermost reversal: it is looked for by its number where it isn't the next one of its schedule.
+  subroutine give_other(steps, snapshots, k, action, from, to)
+    integer(word), intent(in) :: steps, snapshots, k
+    integer(word), intent(out) :: action, from, to
+    type(schedule), pointer :: asked
+    character(60) :: why
+    if (k < 1 .or. k > count_actions(steps, snapshots)) then
       write (why, '(a,i0)') 'ADACT: the schedule has no action ', k
       call stop_with(trim(why))
     end if
-  end subroutine give_action
+    asked => current
+    if (.not. is_of(asked, steps, snapshots)) asked => outside
+    if (.not. is_of(asked, steps, snapshots)) call begin_schedule(asked, steps, snapshots)
+    if (k /= asked%given + 1) call seek(asked, k)
+    call next_action(asked, action, from, to)
+  end subroutine give_other
+
+  pure logical function is_of(s, steps, snapshots)
+    type(schedule), intent(in) :: s
+    integer(word), intent(in) :: steps, snapshots
+    is_of = s%steps == steps .and. s%snapshots == snapshots
+  end function is_of
 
   subroutine begin_schedule(s, steps, snapshots)
     type(schedule), intent(inout) :: s
@@ -249,24 +269,30 @@ contains
     if (betas(0, 0) == 0) call fill_betas()
   end subroutine begin_schedule
 
-  ! The number of actions of a schedule, without making them. Each step has a Turn, which makes `steps`. Each Advance cuts a part in two, so there are
-  ! steps-1 of them, and each is followed by a Keep or a Drop. Besides there are the Stores: with r the repetitions of l steps and s snapshots,
-  ! C(s+r-2, s-1) for the first C(s+r-1, s) of the steps, and then those of the rest with a snapshot less.
+  ! The number of actions of a schedule, without making them: each step has a Turn; each Advance cuts a part in two, so there are steps-1 of them, and
+  ! each is followed by a Keep or a Drop; and there are the Stores (docs/SCHEDULES.md, "How many actions").
   integer(word) function count_actions(steps, snapshots)
     integer(word), intent(in) :: steps, snapshots
-    integer(word) :: l, s, r
     call check_range(steps, snapshots)
     if (betas(0, 0) == 0) call fill_betas()
-    count_actions = max(3 * steps - 2, 0_word)
-    l = steps
+    count_actions = max(3 * steps - 2, 0_word) + stores_of(steps, snapshots)
+  end function count_actions
+
+  ! How many snapshots are taken where the steps are turned: C(s+r-1, s-1) for the first C(s+r, s) of them, and then those of the rest with a
+  ! snapshot less.
+  pure integer(word) function stores_of(steps, snapshots)
+    integer(word), intent(in) :: steps, snapshots
+    integer(word) :: left, s, r
+    stores_of = 0
+    left = steps
     s = snapshots
-    do while (l >= 2)
-      r = repetitions_of(l, s)
-      count_actions = count_actions + beta(s - 1, r - 1)
-      l = l - beta(s, r - 1)
+    do while (left >= 2)
+      r = repetitions_within(left, s)
+      stores_of = stores_of + beta(s - 1, r)
+      left = left - beta(s, r)
       s = s - 1
     end do
-  end function count_actions
+  end function stores_of
 
   subroutine fill_betas()
     integer(word) :: s, r
@@ -313,6 +339,125 @@ contains
       end if
     end do
   end function repetitions_of
+
+  ! The greatest r with beta(snapshots, r) <= steps, for a step or more.
+  pure integer(word) function repetitions_within(steps, snapshots)
+    integer(word), intent(in) :: steps, snapshots
+    repetitions_within = repetitions_of(steps, snapshots)
+    if (beta(snapshots, repetitions_within) > steps) repetitions_within = repetitions_within - 1
+  end function repetitions_within
+
+  ! The schedule goes on with the action of a number, which it has, and no other is gone through. What is counted is how many actions are left, that one
+  ! too. A part's actions are its first one, and those of rows that end it, one in the other (docs/SCHEDULES.md, "How many actions").
+  subroutine seek(s, number)
+    type(schedule), intent(inout) :: s
+    integer(word), intent(in) :: number
+    integer(word) :: actions, left
+    call begin_schedule(s, s%steps, s%snapshots)
+    s%given = number - 1
+    actions = count_actions(s%steps, s%snapshots)
+    left = actions - s%given
+    do while (left < actions .and. s%stage == begin_part)
+      call seek_in_part(s, actions, left)
+    end do
+  end subroutine seek
+
+  ! Of the part that the schedule goes on with one of the `left` last actions is looked for, which isn't its first. Either the schedule goes on with that, or
+  ! with the part above a split, which has so many actions, and so many of them are left.
+  subroutine seek_in_part(s, actions, left)
+    type(schedule), intent(inout) :: s
+    integer(word), intent(inout) :: actions, left
+    type(row) :: this, lower
+    this = row_of(s%high - s%low, s%snapshots - s%depth)
+    call open_frame(s)
+    associate (f => s%frames(s%depth))
+      do
+        this = shortened(this, left)
+        actions = actions_of(this)
+        f%high = f%low + steps_of(this)
+        f%repetitions = this%repetitions + merge(0, 1, this%extra == 0)
+        ! the program goes back to the place of the row
+        f%split = steps_of(this)
+        s%stage = restore_next
+        if (left == actions) return
+        if (f%split == 1) then
+          s%low = f%low
+          s%depth = s%depth - 1
+          s%stage = turn_next
+          return
+        end if
+        s%stage = advance_next
+        if (left == actions - 1) return
+        lower = lower_of(this)
+        if (left > actions_of(lower)) exit
+        this = lower
+      end do
+      f%split = steps_of(lower)
+      s%low = f%low + f%split
+      s%high = f%high
+      s%stage = begin_part
+      actions = actions - 2 - actions_of(lower)
+      left = left - actions_of(lower)
+    end associate
+  end subroutine seek_in_part
+
+  pure type(row) function row_of(steps, snapshots)
+    integer(word), intent(in) :: steps, snapshots
+    row_of%snapshots = snapshots
+    row_of%repetitions = repetitions_within(steps, snapshots)
+    row_of%extra = steps - beta(snapshots, row_of%repetitions)
+    row_of%stores = stores_of(row_of%extra, snapshots - 1)
+  end function row_of
+
+  pure integer(word) function steps_of(r)
+    type(row), intent(in) :: r
+    steps_of = beta(r%snapshots, r%repetitions) + r%extra
+  end function steps_of
+
+  ! The actions of a row, from where the program goes back to its place.
+  pure integer(word) function actions_of(r)
+    type(row), intent(in) :: r
+    actions_of = 3 * steps_of(r) - 2 + beta(r%snapshots - 1, r%repetitions) + r%stores
+  end function actions_of
+
+  ! The row of the steps below the split of a row.
+  pure type(row) function lower_of(r)
+    type(row), intent(in) :: r
+    lower_of = r
+    if (r%extra < beta(r%snapshots - 1, r%repetitions)) then
+      lower_of%repetitions = r%repetitions - 1
+    else
+      lower_of%extra = 0
+      lower_of%stores = 0
+    end if
+  end function lower_of
+
+  ! The row with the fewest repetitions that ends another one and has so many last actions.
+  pure type(row) function shortened(r, left)
+    type(row), intent(in) :: r
+    integer(word), intent(in) :: left
+    integer(word) :: low, middle
+    shortened = r
+    low = 0
+    do while (low < shortened%repetitions)
+      middle = low + (shortened%repetitions - low) / 2
+      if (ends_with(r, middle, left)) then
+        shortened%repetitions = middle
+      else
+        low = middle + 1
+      end if
+    end do
+  end function shortened
+
+  ! Whether the row with fewer repetitions ends this one and has so many last actions.
+  pure logical function ends_with(r, repetitions, left)
+    type(row), intent(in) :: r
+    integer(word), intent(in) :: repetitions, left
+    type(row) :: short_one
+    short_one = r
+    short_one%repetitions = repetitions
+    ends_with = r%extra < beta(r%snapshots - 1, repetitions + 1) .and. left <= actions_of(short_one)
+  end function ends_with
 
   ! The next action with its two places, where one is left to be given.
   subroutine next_action(s, action, from, to)

@@ -17,6 +17,8 @@ program calls
     call test_arrays()
     call test_counts()
     call test_turns()
+    call test_numbers()
+    call test_long_schedules()
     call test_nests()
   case (1)
     call fail_by(argument)
@@ -172,6 +174,60 @@ contains
     end do
     call adend()
   end subroutine test_turns
+
+  ! An action that is asked for out of turn is the one that the schedule gives in turn, and so are those that follow it.
+  subroutine test_numbers()
+    integer(int64) :: l, s, n, k, i, a, f, t
+    integer(int64), allocatable :: all_actions(:, :)
+    do s = 1, 10
+      do l = 1, 90
+        call adactn(l, s, n)
+        allocate (all_actions(3, n))
+        do k = 1, n
+          call adact(l, s, k, all_actions(1, k), all_actions(2, k), all_actions(3, k))
+        end do
+        do k = n, 1, -1
+          do i = k, min(k + 5, n)
+            call adact(l, s, i, a, f, t)
+            call check(all(all_actions(:, i) == [a, f, t]), 'an action by its number')
+          end do
+        end do
+        deallocate (all_actions)
+      end do
+    end do
+  end subroutine test_numbers
+
+  ! The greatest schedules have no action that is far.
+  subroutine test_long_schedules()
+    integer(int64), parameter :: l = 2_int64**40
+    integer(int64) :: s, n, k, i, a, f, t, next(3)
+    do s = 1, 64
+      call adactn(l, s, n)
+      call adact(l, s, n, a, f, t)
+      call check(a == 3 .and. f == 0 .and. t == 1, 'the last action')
+      call adact(l, s, n - 1, a, f, t)
+      call check(a == 5 .and. f == 0 .and. t == 0, 'the last Drop')
+      do i = 1, 50
+        k = n / 51 * i
+        call adact(l, s, k, a, f, t)
+        call adact(l, s, k + 1, next(1), next(2), next(3))
+        call check(follows([a, f, t], next), 'two actions in a row')
+        call adact(l, s, k + 2, a, f, t)
+        call adact(l, s, k + 1, a, f, t)
+        call check(all(next == [a, f, t]), 'an action in turn and by its number')
+      end do
+    end do
+  end subroutine test_long_schedules
+
+  ! Whether an action may come right after another one: it begins where that one leaves the program, and the program goes back where a step was turned.
+  logical function follows(one, next)
+    integer(int64), intent(in) :: one(3), next(3)
+    if (one(1) == 3) then
+      follows = next(1) >= 4 .and. next(2) < one(2)
+    else
+      follows = next(2) == one(3) .and. (next(1) /= 2 .or. one(1) /= 2)
+    end if
+  end function follows
 
   ! Each turn of a reversal has a reversal of its own, and the outer one goes on where it was; ten deep, so that the list of schedules grows.
   subroutine test_nests()
