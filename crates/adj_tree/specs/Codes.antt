@@ -1,7 +1,7 @@
 -- The numbers of refusals. (docs/REFUSALS.md)
 use Rattle.std.specs.Prelude.{ℕ}
 use Rattle.adj_tree.specs.declared.code.Code.{Code}
-use Rattle.adj_tree.specs.declared.code.Code.TheVariants.{Columns, Character, Unsupported, Malformed, LargeNumber, LongName, Undeclared, Redeclared, Rank, LoopEnd, LoopVariable, Extent, WrittenExtent, MissingUnit, Actuals, Recursion, Aliasing, ReservedName, RepeatedUnit, Directive, Limit, MissingHead, ListedName, WrittenValue, Exponent}
+use Rattle.adj_tree.specs.declared.code.Code.TheVariants.{Columns, Character, Unsupported, Malformed, LargeNumber, LongName, Undeclared, Redeclared, Rank, LoopEnd, LoopVariable, Extent, WrittenExtent, MissingUnit, Actuals, Recursion, Aliasing, ReservedName, RepeatedUnit, Directive, Limit, MissingHead, ListedName, WrittenValue, Exponent, Layout}
 
 -- the number of a code
 abbrev pub code_number : Code → ℕ
@@ -30,3 +30,4 @@ code_number MissingHead = 22
 code_number ListedName = 23
 code_number WrittenValue = 24
 code_number Exponent = 25
+code_number Layout = 26

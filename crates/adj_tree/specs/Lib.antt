@@ -5,3 +5,5 @@ pub mod Size
 pub mod Lines
 pub mod Listed
 pub mod Codes
+pub mod Common
+pub mod CommonView

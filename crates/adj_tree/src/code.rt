@@ -56,6 +56,8 @@ pub enum Code {
     WrittenValue = 24,
     /// A constant exponent that is out of range.
     Exponent = 25,
+    /// A COMMON block that units lay out in different ways.
+    Layout = 26,
 }
 
 impl Code {
