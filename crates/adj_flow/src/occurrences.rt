@@ -3,7 +3,7 @@
 ghost use Rattle.std.specs.Prelude.{◌≡◌, ◌++◌, ◌&&◌, IfOk, OnOk};
 ghost use Rattle.adj_tree.specs.Code.{plain};
 ghost use Rattle.adj_tree.specs.View.{term_of, terms_of};
-ghost use Rattle.def_flow.specs.Occurrences.{is_active};
+ghost use Rattle.def_sweep.specs.Occurrences.{is_active_where};
 ghost use Rattle.def_names.specs.VariableLists.{list_if, vars_in_terms};
 ghost use Rattle.def_flow.specs.AdjointReads.{adjoint_reads_in};
 ghost use Rattle.adj_symbols_writes.specs.View.{vars_seen};
@@ -71,26 +71,26 @@ impl Occurrences<'_, '_, '_> {
     }
 
     // Whether an active variable stands at a differentiable occurrence.
-    fn is_active(self, term: &Expr) -> Result<bool, Memory>
-        ensures active { IfOk result (λ b. b ≡ is_active (active_by self.entry) (term_of term.now)) }
+    fn is_active_where(self, term: &Expr) -> Result<bool, Memory>
+        ensures active { IfOk result (λ b. b ≡ is_active_where (active_by self.entry) (term_of term.now)) }
     {
         match term {
             Expr::Var(name) | Expr::Elem(name, _) => self.is_on(name),
-            Expr::Neg(a) | Expr::Power(a, _) => self.is_active(a),
+            Expr::Neg(a) | Expr::Power(a, _) => self.is_active_where(a),
             Expr::Pow(a, exponent) => {
                 if *exponent == 0 {
                     Ok(false)
                 } else {
-                    self.is_active(a)
+                    self.is_active_where(a)
                 }
             }
             Expr::Bin(op, a, b) => match op {
                 // (in a chain of products the right operand is a factor, and the left one the rest of the chain)
                 Op::Add | Op::Sub | Op::Mul => {
-                    if self.is_active(b)? {
+                    if self.is_active_where(b)? {
                         return Ok(true);
                     }
-                    self.is_active(a)
+                    self.is_active_where(a)
                 }
                 Op::Quot | Op::Mod | Op::Max | Op::Min => Ok(false),
             },
@@ -125,7 +125,7 @@ impl Occurrences<'_, '_, '_> {
                 0 => Ok(()),
                 1 => self.add_reads(a, out),
                 _ => {
-                    if self.is_active(a)? {
+                    if self.is_active_where(a)? {
                         add_term(a, out)
                     } else {
                         self.add_reads(a, out)
@@ -133,7 +133,7 @@ impl Occurrences<'_, '_, '_> {
                 }
             },
             Expr::Power(a, b) => {
-                if self.is_active(a)? {
+                if self.is_active_where(a)? {
                     add_term(a, out)?;
                     add_term(b, out)
                 } else {
@@ -146,13 +146,13 @@ impl Occurrences<'_, '_, '_> {
                     self.add_reads(b, out)
                 }
                 Op::Mul => {
-                    let needs_left = self.is_active(b)?;
+                    let needs_left = self.is_active_where(b)?;
                     if needs_left {
                         add_term(a, out)?;
                     } else {
                         self.add_reads(a, out)?;
                     }
-                    let needs_right = self.is_active(a)?;
+                    let needs_right = self.is_active_where(a)?;
                     if needs_right {
                         add_term(b, out)
                     } else {

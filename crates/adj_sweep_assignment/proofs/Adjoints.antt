@@ -6,7 +6,8 @@ use Rattle.def_meaning.specs.Append.{◌+++◌, one}
 use Rattle.def_meaning.specs.Rename.{rename, rename_term, rename_terms}
 use Rattle.def_names.specs.Numbers.{Vars}
 use Rattle.def_sweep.specs.Marked.{code_if, place}
-use Rattle.def_sweep.specs.AdjointOf.{is_active_where, temps_where, back_where, adjoint_where}
+use Rattle.def_sweep.specs.Occurrences.{is_active_where}
+use Rattle.def_sweep.specs.AdjointOf.{temps_where, back_where, adjoint_where}
 use Rattle.adj_sweep_assignment.proofs.Onto.{joined}
 
 -- where the right side isn't active, the shadow of the target becomes 0 and that is all

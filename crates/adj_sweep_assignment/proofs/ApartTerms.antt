@@ -7,7 +7,8 @@ use Rattle.def_meaning.specs.Append.{◌+++◌}
 use Rattle.def_meaning.specs.Rename.{rename, rename_term}
 use Rattle.def_names.specs.Numbers.{Vars}
 use Rattle.def_sweep.specs.Marked.{code_if, count_of, own_or, work_var}
-use Rattle.def_sweep.specs.AdjointOf.{is_active_where, has_own_where, temps_in_where, shrunk_where, back_where, times_power}
+use Rattle.def_sweep.specs.Occurrences.{is_active_where}
+use Rattle.def_sweep.specs.AdjointOf.{has_own_where, temps_in_where, shrunk_where, back_where, times_power}
 use Rattle.adj_sweep_assignment.specs.declared.parts.Parts.{Parts}
 use Rattle.adj_sweep_assignment.specs.declared.share.Share.TheVariants.{Nothing}
 use Rattle.adj_sweep_assignment.specs.Shares.{share_code, scaled_code, guarded_power}

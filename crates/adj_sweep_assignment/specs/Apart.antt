@@ -5,7 +5,8 @@ use Rattle.adj_tree.specs.View.{term_of}
 use Rattle.def_meaning.specs.Rename.{rename, rename_term}
 use Rattle.def_names.specs.Numbers.{Vars}
 use Rattle.def_sweep.specs.Marked.{code_if}
-use Rattle.def_sweep.specs.AdjointOf.{is_active_where, temps_in_where, shrunk_where, back_where}
+use Rattle.def_sweep.specs.Occurrences.{is_active_where}
+use Rattle.def_sweep.specs.AdjointOf.{temps_in_where, shrunk_where, back_where}
 use Rattle.adj_sweep_assignment.specs.declared.parts.Parts.{Parts}
 use Rattle.adj_sweep_assignment.specs.Shares.{share_code}
 

@@ -5,7 +5,7 @@ ghost use Rattle.adj_tree.specs.Code.{plain, shadow, helper, work, temp, var};
 ghost use Rattle.adj_tree.specs.View.{term_of, terms_of};
 ghost use Rattle.def_meaning.specs.Rename.{rename_term};
 ghost use Rattle.def_sweep.specs.Marked.{place};
-ghost use Rattle.def_sweep.specs.AdjointOf.{is_active_where};
+ghost use Rattle.def_sweep.specs.Occurrences.{is_active_where};
 ghost use Rattle.adj_sweep_assignment.specs.Sites.{naming_of, active_in};
 
 use crate::marking::Marking;

@@ -12,7 +12,7 @@ use Rattle.def_names.specs.Numbering.{point_before}
 use Rattle.def_flow.specs.Parts.{Part, parts}
 use Rattle.def_flow.specs.Ways.{Way}
 use Rattle.def_flow.specs.Standing.{Standing}
-use Rattle.def_flow.specs.Occurrences.{reads_at}
+use Rattle.def_sweep.specs.Occurrences.{reads_at}
 use Rattle.def_names.specs.VariableLists.{has, list_if, vars_in, vars_in_terms, handed_in, standing_in}
 use Rattle.def_flow.specs.AdjointReads.{adjoint_reads_in}
 use Rattle.def_flow.specs.Problem.{Problem, statements_of, ways_of, TakesPart}

@@ -11,7 +11,7 @@ use Rattle.def_sweep.specs.Facts.{In, joined, in_terms}
 use Rattle.def_flow.specs.Parts.{Part, parts}
 use Rattle.def_flow.specs.Ways.{assigned_on}
 use Rattle.def_flow.specs.Standing.{Place, outermost, part_of, turn_of, Standing}
-use Rattle.def_flow.specs.Occurrences.{adjoint_reads}
+use Rattle.def_sweep.specs.Occurrences.{adjoint_reads}
 use Rattle.def_names.specs.VariableLists.{list_if, vars_in, vars_in_terms, used_in, handed_in, standing_in}
 use Rattle.def_flow.specs.AdjointReads.{adjoint_reads_in}
 use Rattle.def_flow.specs.Problem.{Problem, statements_of, ways_of, CallsUnit, TakesPart, bound}

@@ -7,7 +7,7 @@ use Rattle.adj_reach.specs.Reached.{Reached}
 use Rattle.def_flow.specs.Parts.{Part}
 use Rattle.def_flow.specs.Ways.{Way, assigned_on, passed_on}
 use Rattle.def_flow.specs.Standing.{Standing}
-use Rattle.def_flow.specs.Occurrences.{occurring}
+use Rattle.def_sweep.specs.Occurrences.{occurring}
 use Rattle.def_flow.specs.Problem.{Problem, statements_of, ways_of, CallsUnit, IsHead, TakesPart, flagged, bound}
 
 abbrev pub Node : Type 0

@@ -11,7 +11,7 @@ use Rattle.adj_reach.specs.Reached.{Reached}
 use Rattle.def_flow.specs.Parts.{Part}
 use Rattle.def_flow.specs.Ways.{Deed, passing, assigning, calling, Way}
 use Rattle.def_flow.specs.Standing.{Standing}
-use Rattle.def_flow.specs.Occurrences.{reads_at}
+use Rattle.def_sweep.specs.Occurrences.{reads_at}
 use Rattle.def_flow.specs.Problem.{Problem, statements_of, ways_of, CallsUnit, TakesPart, bound}
 use Rattle.def_flow.specs.Flow.{Node}
 use Rattle.def_flow.specs.Activity.{Activity, split_at}

@@ -2,7 +2,6 @@
 pub mod Parts
 pub mod Ways
 pub mod Standing
-pub mod Occurrences
 pub mod AdjointReads
 pub mod Problem
 pub mod Flow

@@ -12,7 +12,7 @@ use Rattle.adj_reach.specs.Reached.{Reached}
 use Rattle.def_flow.specs.Parts.{Part}
 use Rattle.def_flow.specs.Ways.{Way, assigned_on}
 use Rattle.def_flow.specs.Standing.{Standing, turn_of}
-use Rattle.def_flow.specs.Occurrences.{adjoint_reads}
+use Rattle.def_sweep.specs.Occurrences.{adjoint_reads}
 use Rattle.def_flow.specs.Problem.{Problem, statements_of, ways_of, CallsUnit, TakesPart, bound}
 use Rattle.def_flow.specs.Activity.{Activity, activity_marks, Holds, resets, split_at}
 use Rattle.def_names.specs.Uses.{uses}

@@ -1,2 +1,3 @@
 -- The laws of sweeps.
 pub mod UnsplitRows
+pub mod Occurrences

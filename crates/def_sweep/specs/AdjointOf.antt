@@ -2,28 +2,11 @@
 use Rattle.std.specs.Prelude.{ℕ, zero, suc, ◌+◌, pos, List, Bool, false, ◌||◌, ◌&&◌, max, if◌then◌else◌}
 use Rattle.adj_tree.specs.Code.{var_eq, plain, shadow, helper, work, plus, minus, times, greater, Term, lit, var, elem, neg, bin, pow, power_of, abs, Terms, none, assign, Code, stop, step}
 use Rattle.def_meaning.specs.Append.{◌+++◌, one}
-use Rattle.def_meaning.specs.Read.{reads_term, reads_terms}
 use Rattle.def_names.specs.Numbers.{Vars}
-use Rattle.def_sweep.specs.Marks.{Marks, active_at}
+use Rattle.def_sweep.specs.Occurrences.{is_active_where}
 use Rattle.def_sweep.specs.Marked.{code_if, is_compound, count_of, own_or, own_code, work_var, place}
-use Rattle.def_sweep.specs.Facts.{joined, vars_if, in_terms}
 
 -- ---- the adjoint of an assignment
-
--- a term with an active occurrence: of a variable of the set, where the derivative may be other than 0
-abbrev pub is_active_where : Vars → Term → Bool
-is_active_where on (lit z) = false
-is_active_where on (var x) = on x
-is_active_where on (elem x subs) = on x
-is_active_where on (neg a) = is_active_where on a
-is_active_where on (bin plus a b) = is_active_where on a || is_active_where on b
-is_active_where on (bin minus a b) = is_active_where on a || is_active_where on b
-is_active_where on (bin times a b) = is_active_where on a || is_active_where on b
-is_active_where on (bin _ a b) = false
-is_active_where on (pow a zero) = false
-is_active_where on (pow a (suc k)) = is_active_where on a
-is_active_where on (power_of a b) = is_active_where on a
-is_active_where on (abs a) = false
 
 -- whether the factor a of a product with b has a temporary of its own
 abbrev pub has_own_where : Vars → Term → Term → Bool
@@ -126,27 +109,3 @@ adjoint_where on t subs e line =
     (temps_where on e 1 line +++ one line (assign (helper work 1) none (place (shadow t) subs))) +++
     (one line (assign (shadow t) subs (lit (pos 0))) +++
     code_if (is_active_where on e) (back_where on e 1 1 line))
-
--- ---- what it reads
-
--- those at a differentiable occurrence: the term is active where they are
-abbrev pub occurring : Term → Vars
-occurring e = λ v. is_active_where (λ x. var_eq v x) e
-
--- those whose values the adjoint of a term uses, where `on` are the active ones: the factor of an active factor,
--- the base of an active power of at least 2, base and exponent of one whose exponent is an expression, and the subscripts of active occurrences
-abbrev pub adjoint_reads : Vars → Term → Vars
-adjoint_reads on (elem x subs) v = on x && reads_terms v subs
-adjoint_reads on (neg a) v = adjoint_reads on a v
-adjoint_reads on (bin plus a b) v = adjoint_reads on a v || adjoint_reads on b v
-adjoint_reads on (bin minus a b) v = adjoint_reads on a v || adjoint_reads on b v
-adjoint_reads on (bin times a b) v =
-    (is_active_where on a && reads_term v b) || ((is_active_where on b && reads_term v a) || (adjoint_reads on a v || adjoint_reads on b v))
-adjoint_reads on (pow a (suc zero)) v = adjoint_reads on a v
-adjoint_reads on (pow a (suc (suc k))) v = (is_active_where on a && reads_term v a) || adjoint_reads on a v
-adjoint_reads on (power_of a b) v = (is_active_where on a && (reads_term v a || reads_term v b)) || adjoint_reads on a v
-adjoint_reads on _ v = false
-
--- the variables that the sweeps of the i-th statement read besides what is kept: the adjoint reads of an assignment
-abbrev pub reads_at : Marks → ℕ → Terms → Term → Vars
-reads_at m i subs e = joined (vars_if (m.adjointed i) (adjoint_reads (active_at m i) e)) (vars_if (m.kept i || m.adjointed i) (in_terms subs))

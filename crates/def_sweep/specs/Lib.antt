@@ -10,6 +10,7 @@ pub mod MarkedProgram
 pub mod MarkedAdjoint
 pub mod Plan
 pub mod Bindings
+pub mod Occurrences
 pub mod AdjointOf
 pub mod Rows
 pub mod ReversalCode

@@ -1,5 +1,4 @@
 -- the lemmas of the crate
-pub mod Occurring
 pub mod TurnLaws
 pub mod Lists
 pub mod Numbers

@@ -27,7 +27,6 @@ use Rattle.law_analysed.proofs.TurnLaws.{TurnLaws}
 use Rattle.def_sweep.specs.Plan.{actuals_named, Schedules, Step, step_in, reversed_by, ByStep}
 use Rattle.def_sweep.specs.Schedules.{schedules_by}
 use Rattle.law_sweep.proofs.CallSweeps.{names_are}
-use Rattle.law_analysed.proofs.Occurring.{same_occurring, same_reads_at}
 
 -- the last way of a list leads from its last point
 pub ends : (i p q : ℕ) (last : Deed) (c : Code) → Contains (ways i p q last c) (way (last_point p i c) q last)
@@ -146,13 +145,13 @@ module _ (units : List Procedure) (gf : List ℕ → CalleeFacts) (w : Facts) (g
         record {
           values = v;
           tangents = t;
-          needs_reads = λ y h. o.needs y (sym (same_reads_at w.marks i subs e y) ∙ h);
+          needs_reads = o.needs;
           needs_uses = here.kept;
           keeps = o.keeps;
-          holds_reads = λ y h. o.holds y (subst (λ b. (b && not (vars_if (w.marks.kept i) (whole x subs) y)) ≡ true) (same_reads_at w.marks i subs e y) h);
-          saves = λ k h. o.saves k (subst (λ b. (w.held (point_before i) x || b) ≡ true) (same_reads_at w.marks i subs e x) h);
-          varies_target = λ y h. o.varies y (sym (same_occurring e y) ∙ h);
-          serves_target = λ y h. o.serves y (sym (same_occurring e y) ∙ h);
+          holds_reads = o.holds;
+          saves = o.saves;
+          varies_target = o.varies;
+          serves_target = o.serves;
           adjoints = o.adjoints;
           shadows = λ y. let p = own_before g (record { number = i; place = at; act = assign x subs e }) own in unit.shadows (point_before i) (point_before i) y p p;
         }

@@ -16,7 +16,7 @@ use Rattle.def_flow.proofs.Sets.{left_in, left_out, same_truth}
 use Rattle.def_flow.proofs.Numbers.{one_statement}
 use Rattle.def_flow.proofs.Holders.{is_block, holder_of}
 use Rattle.def_flow.proofs.Placed.{way_of_statement}
-use Rattle.def_flow.specs.Occurrences.{occurring}
+use Rattle.def_sweep.specs.Occurrences.{occurring}
 
 -- what an assignment does on its way
 abbrev pub deed_of : ℕ → Var → Terms → Deed

@@ -13,7 +13,7 @@ use Rattle.adj_reach.specs.Reached.{begins, leads}
 use Rattle.def_flow.specs.Parts.{Part}
 use Rattle.def_flow.specs.Ways.{Way, way}
 use Rattle.def_flow.specs.Standing.{Place, Standing}
-use Rattle.def_flow.specs.Occurrences.{adjoint_reads, reads_at}
+use Rattle.def_sweep.specs.Occurrences.{adjoint_reads, reads_at}
 use Rattle.def_flow.specs.Problem.{Problem, statements_of, TakesPart}
 use Rattle.def_flow.specs.Activity as activity
 use Rattle.def_flow.specs.Live as live

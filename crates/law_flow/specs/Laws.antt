@@ -9,7 +9,7 @@ use Rattle.def_sweep.specs.Facts.{In, Within, without, joined, vars_if, whole, i
 use Rattle.def_flow.specs.Parts.{Part}
 use Rattle.def_flow.specs.Ways.{Way, assigned_on, passed_on}
 use Rattle.def_flow.specs.Standing.{Standing}
-use Rattle.def_flow.specs.Occurrences.{occurring, reads_at}
+use Rattle.def_sweep.specs.Occurrences.{occurring, reads_at}
 use Rattle.def_flow.specs.Problem.{Problem, statements_of, ways_of, CallsUnit, TakesPart, bound}
 use Rattle.def_flow.specs.Activity.{Activity, IsPoint, Holds, split_at}
 use Rattle.def_names.specs.Uses.{uses}
