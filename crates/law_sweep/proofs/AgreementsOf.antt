@@ -15,7 +15,7 @@ use Rattle.law_sweep.specs.Pairs.{Words}
 use Rattle.law_sweep.specs.Scenes.{masked}
 use Rattle.def_names.proofs.Variables.{or_left, or_right}
 use Rattle.law_sweep.proofs.Values.{power_tangent-zero}
-use Rattle.def_sweep.specs.AdjointOf.{is_active_where, adjoint_reads}
+use Rattle.def_sweep.specs.Occurrences.{is_active_where, adjoint_reads}
 use Rattle.law_sweep.specs.Runs.{SameOn}
 use Rattle.law_sweep.proofs.Terms.{num, nums, cell_or, cell_in, tan, word_of, power_word, IsExponent, CanDo, HasCell, IsDefined, AreDefined}
 use Rattle.law_sweep.proofs.TermTangents.{tan_inactive, cell_in_below}

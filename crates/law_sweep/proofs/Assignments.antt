@@ -22,7 +22,8 @@ use Rattle.law_sweep.specs.Scenes.{Course, scene}
 use Rattle.def_names.proofs.Variables.{or_left, or_right, and_true}
 use Rattle.law_sweep.proofs.KeyVariables.{key_same}
 use Rattle.law_sweep.proofs.Turned.{SameDepth, Turns}
-use Rattle.def_sweep.specs.AdjointOf.{adjoint_where, adjoint_reads, reads_at}
+use Rattle.def_sweep.specs.Occurrences.{adjoint_reads, reads_at}
+use Rattle.def_sweep.specs.AdjointOf.{adjoint_where}
 use Rattle.law_sweep.specs.Laws.{AssignmentLaws}
 use Rattle.law_sweep.specs.Runs.{SameOn, SameOff}
 use Rattle.law_sweep.proofs.Runs.{comes_stop, comes_leads, same_within, same_then}

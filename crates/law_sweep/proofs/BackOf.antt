@@ -26,7 +26,8 @@ use Rattle.law_sweep.proofs.Back.{SameUpTo, Adds}
 use Rattle.def_sweep.specs.Facts.{In}
 use Rattle.def_meaning.specs.Apart.{has_name}
 use Rattle.def_meaning.proofs.Cells.{size_positive}
-use Rattle.def_sweep.specs.AdjointOf.{is_active_where, has_own_where, temps_in_where, times_power, back_where}
+use Rattle.def_sweep.specs.Occurrences.{is_active_where}
+use Rattle.def_sweep.specs.AdjointOf.{has_own_where, temps_in_where, times_power, back_where}
 use Rattle.law_sweep.proofs.Terms.{num, nums, cell_or, tan, HasCell, value_words, values_words}
 use Rattle.law_sweep.proofs.TermTangents.{tan_inactive, cell_in_below}
 use Rattle.law_sweep.proofs.TermUses.{IsOver, over_treated, IsUsable, num_same, tan_same, defined_same, usable_same}

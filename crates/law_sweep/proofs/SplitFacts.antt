@@ -12,43 +12,13 @@ use Rattle.def_names.specs.Numbering.{point_before, point_after}
 use Rattle.def_sweep.specs.Facts.{In, joined, vars_if, in_term, in_terms, Facts}
 use Rattle.def_meaning.specs.Apart.{has_name}
 use Rattle.def_names.proofs.Variables.{and_true, or_left, or_right}
-use Rattle.def_sweep.specs.AdjointOf.{is_active_where, adjoint_reads, reads_at}
+use Rattle.def_sweep.specs.Occurrences.{is_active_where, adjoint_reads, reads_at}
 use Rattle.def_sweep.specs.Plan.{beside, IsActual, actuals_named, Schedules, Step, reversed_by, ByStep}
 use Rattle.def_sweep.specs.Callees.{nothing, CalleeFacts, is_plain', is_plain}
 use Rattle.law_sweep.specs.Laws.{point_inside, ValueLaws, TangentLaws, WayLaws, AssignmentLaws, LoopLaws, CallLaws, PassingLaws, ReversedLaws, StepLaws, ActLawsBy, ListLawsBy, UnitLawsBy, SplitLaws, CallLawsBy}
+use Rattle.def_sweep.proofs.Occurrences.{either_of, reads_stand}
 use Rattle.law_sweep.proofs.ByStep.{reversed_is}
 use Rattle.def_sweep.specs.SplitMarks.{split_marks, split_needed, split_held, split_own, CallsRead', CallsRead}
-
--- ---- what the adjoint of a term uses stands in it
-
-either_of : (a b : Bool) (P : Type 0) → (a || b) ≡ true → (a ≡ true → P) → (b ≡ true → P) → P
-either_of true b P h f g = f refl
-either_of false b P h f g = g h
-
-module _ (on : Vars) (v : Var) where
-  pub reads_stand : (e : Term) → adjoint_reads on e v ≡ true → reads_term v e ≡ true
-  reads_stand (lit z) h = absurd cc
-  reads_stand (var x) h = absurd cc
-  reads_stand (elem x subs) h = or_right (var_eq v x) (reads_terms v subs) (and_true (on x) (reads_terms v subs) h).1
-  reads_stand (neg a) h = reads_stand a h
-  reads_stand (bin plus a b) h = either_of (adjoint_reads on a v) (adjoint_reads on b v) _ h (λ e. or_left (reads_term v a) (reads_term v b) (reads_stand a e)) (λ e. or_right (reads_term v a) (reads_term v b) (reads_stand b e))
-  reads_stand (bin minus a b) h = either_of (adjoint_reads on a v) (adjoint_reads on b v) _ h (λ e. or_left (reads_term v a) (reads_term v b) (reads_stand a e)) (λ e. or_right (reads_term v a) (reads_term v b) (reads_stand b e))
-  reads_stand (bin times a b) h =
-      either_of (is_active_where on a && reads_term v b) ((is_active_where on b && reads_term v a) || (adjoint_reads on a v || adjoint_reads on b v)) _ h
-      (λ e. or_right (reads_term v a) (reads_term v b) (and_true (is_active_where on a) (reads_term v b) e).1)
-      (λ k. either_of (is_active_where on b && reads_term v a) (adjoint_reads on a v || adjoint_reads on b v) _ k
-      (λ e. or_left (reads_term v a) (reads_term v b) (and_true (is_active_where on b) (reads_term v a) e).1)
-      (λ l. either_of (adjoint_reads on a v) (adjoint_reads on b v) _ l (λ e. or_left (reads_term v a) (reads_term v b) (reads_stand a e)) (λ e. or_right (reads_term v a) (reads_term v b) (reads_stand b e))))
-  reads_stand (bin quot a b) h = absurd cc
-  reads_stand (bin modulo a b) h = absurd cc
-  reads_stand (bin greater a b) h = absurd cc
-  reads_stand (bin lesser a b) h = absurd cc
-  reads_stand (pow a zero) h = absurd cc
-  reads_stand (pow a (suc zero)) h = reads_stand a h
-  reads_stand (pow a (suc (suc k))) h = either_of (is_active_where on a && reads_term v a) (adjoint_reads on a v) _ h (λ e. (and_true (is_active_where on a) (reads_term v a) e).1) (λ e. reads_stand a e)
-  reads_stand (power_of a b) h =
-      either_of (is_active_where on a && (reads_term v a || reads_term v b)) (adjoint_reads on a v) _ h (λ e. (and_true (is_active_where on a) (reads_term v a || reads_term v b) e).1) (λ e. or_left (reads_term v a) (reads_term v b) (reads_stand a e))
-  reads_stand (abs a) h = absurd cc
 
 -- ---- statements, where two sets have what they read
 

@@ -19,7 +19,8 @@ use Rattle.law_sweep.specs.Scenes.{Course, scene}
 use Rattle.def_names.proofs.Variables.{and_true}
 use Rattle.law_sweep.proofs.Steps.{assigns}
 pub use Rattle.law_sweep.proofs.Temps.{SameLoops, SameBelow}
-use Rattle.def_sweep.specs.AdjointOf.{is_active_where, has_own_where, temps_in_where, shrunk_where, temps_where}
+use Rattle.def_sweep.specs.Occurrences.{is_active_where}
+use Rattle.def_sweep.specs.AdjointOf.{has_own_where, temps_in_where, shrunk_where, temps_where}
 use Rattle.law_sweep.proofs.Terms.{num, IsDefined, value_words}
 use Rattle.law_sweep.proofs.TermUses.{IsText, IsOver, over_text, IsUsable, num_text, defined_text, num_same, defined_same, usable_same}
 

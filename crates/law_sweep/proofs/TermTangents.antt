@@ -18,7 +18,7 @@ use Rattle.law_sweep.specs.Scenes.{masked}
 use Rattle.def_names.proofs.Variables.{or_left, or_right, or_false}
 use Rattle.law_sweep.proofs.KeyVariables.{key_same}
 use Rattle.law_sweep.proofs.Values.{power_tangent-zero}
-use Rattle.def_sweep.specs.AdjointOf.{is_active_where, occurring}
+use Rattle.def_sweep.specs.Occurrences.{is_active_where, occurring}
 use Rattle.law_sweep.specs.Kernel.{AreTreated}
 use Rattle.law_sweep.specs.Laws.{AssignmentLaws}
 use Rattle.law_sweep.proofs.Sweeps.{IsCell, Matches}

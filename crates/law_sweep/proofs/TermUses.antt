@@ -12,7 +12,7 @@ use Rattle.def_meaning.specs.Apart.{has_name}
 use Rattle.law_sweep.specs.Pairs.{Words, SamePlain}
 use Rattle.def_names.proofs.Variables.{or_left, or_right}
 use Rattle.def_meaning.proofs.Variables.{var_refl}
-use Rattle.def_sweep.specs.AdjointOf.{is_active_where}
+use Rattle.def_sweep.specs.Occurrences.{is_active_where}
 use Rattle.law_sweep.specs.Kernel.{AllText, AreTreated}
 use Rattle.law_sweep.proofs.Shapes.{text_first, text_second}
 use Rattle.law_sweep.proofs.Terms.{num, nums, word_of, power_word, IsExponent, tan, tangent_of, cell_or, CanDo, HasCell, IsDefined, AreDefined}

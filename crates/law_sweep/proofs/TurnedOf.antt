@@ -20,7 +20,8 @@ use Rattle.law_sweep.specs.Pairs.{Key, key_eq, shadows, SamePlain, on_words}
 use Rattle.law_sweep.specs.Scenes.{Course, scene, masked}
 use Rattle.law_sweep.proofs.KeyVariables.{key_same}
 use Rattle.law_sweep.proofs.Turned.{Turns}
-use Rattle.def_sweep.specs.AdjointOf.{is_active_where, temps_in_where, temps_where, back_where, adjoint_where}
+use Rattle.def_sweep.specs.Occurrences.{is_active_where}
+use Rattle.def_sweep.specs.AdjointOf.{temps_in_where, temps_where, back_where, adjoint_where}
 use Rattle.law_sweep.proofs.Terms.{nums, cell_or, cell_in, tan, HasCell, AreDefined, values_words}
 use Rattle.law_sweep.proofs.TermTangents.{tan_inactive, changed}
 use Rattle.law_sweep.proofs.TermUses.{IsOver, AreText, over_treated, IsUsable, tan_same, usable_same, nums_text, all_defined_text}

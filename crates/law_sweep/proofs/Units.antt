@@ -38,7 +38,7 @@ use Rattle.law_sweep.proofs.Entering.{actuals_at, CallPasses, CallDone, writes_a
 use Rattle.law_sweep.proofs.Transposed.{Transposed, transposed_to}
 use Rattle.law_sweep.specs.Steps.{ActualsAgree}
 use Rattle.law_sweep.proofs.CallSweeps.{CallTransposed}
-use Rattle.law_sweep.specs.Theorem.{plan_of, UnitsTranspose, PairsTranspose, CallsSplit}
+use Rattle.law_sweep.specs.Theorem.{plan_of, UnitsTranspose, ListsTranspose, PairsTranspose, CallsSplit}
 use Rattle.def_sweep.specs.Schedules.{schedules_by}
 use Rattle.law_sweep.proofs.Snapshots.{KnowsArrays}
 use Rattle.def_meaning.proofs.EntriesSeen.{own_names}
@@ -128,7 +128,15 @@ module _ (sb : Bool) (lines : ReversedLines) (ps qs : List Procedure) (g : List 
   abbrev pub PairDone : Vars → ℕ → List ℕ → Procedure → (Var → Shape) → ℕ → Type 0
   PairDone also depth name u sh level = DoneBy (split_facts (g name) also) true depth name u sh level
 
+  -- so do those of any list in the unit that meets the laws of its statements, from the point that leads to it to the one to which its end leads
+  abbrev pub ListDone : ℕ → List ℕ → (Var → Shape) → ℕ → Type 0
+  ListDone depth name sh level =
+      (i d from to : ℕ) (c : Code) → CallsInside inside c → ListLawsBy (schedules_by sb g) g (g name).facts from i c → WayLaws (g name).facts (last_point from i c) to →
+      FitsListBy (schedules_by sb g) lines ps g answers paired carried (there name) (g name).facts.marks (vars name) (arrays name) (handed_back ps) i c → (s e : Scene ℤ) (k left : ℕ) → run (calls_of ps depth) (on_words (plainly sh) level) c s k ≡ Done e left →
+      Transposed (calls_of qs depth) lines (calls_of ps depth) sh level (cells_of sh (vars name)) (g name).facts d (there name) (λ x. writes (handed_back ps) x c) (is_plain (g name).facts.marks i c) from to c (forward_with (schedules_by sb g) (plan name) i d c) (backward_with (schedules_by sb g) (plan name) i d c) s.store e.store
+
   pub record AllDone (depth : ℕ) : Type 0 where
+    pub list : (name : List ℕ) (u : Procedure) → find_unit ps name ≡ Some u → IsTrue (inside name) → (sh : Var → Shape) (level : ℕ) → ShapesOf name sh → ListDone depth name sh level
     pub adjoint : (name : List ℕ) (u : Procedure) → find_unit ps name ≡ Some u → IsTrue (inside name) → (sh : Var → Shape) (level : ℕ) → ShapesOf name sh → UnitDone depth name u sh level
     pub pair : (also : Vars) (name : List ℕ) (u : Procedure) → find_unit ps name ≡ Some u → IsTrue (inside name) → paired name ≡ true → (sh : Var → Shape) (level : ℕ) → ShapesOf name sh → PairDone also depth name u sh level
 
@@ -415,17 +423,24 @@ module _ (sb : Bool) (lines : ReversedLines) (ps qs : List Procedure) (g : List 
     abbrev SplitsDone : ℕ → List ℕ → Facts → Bool → (Var → Shape) → ℕ → Type 0
     SplitsDone depth name w present sh level = (n : List ℕ) (given : List (List ℕ)) (line : ℕ) (s e : Scene ℤ) (k left : ℕ) (also : Vars) → IsTrue (inside n) → ((d a : List ℕ) → IsActual (g n).callee.dummies given d a → In (plain d) (g n).callee.shadowed → In (plain a) w.marks.shadowed) → CallFits ps (vars name) (arrays name) (g n) n given → (present ≡ true → paired n ≡ true) → calls_of ps depth (on_words (plainly sh) level) n (actuals_named given) line s k ≡ Done e left → SplitTransposed (calls_of qs depth) lines (calls_of ps depth) sh level (cells_of sh (vars name)) (g n) given n line also present s.store e.store
 
-    -- a unit by facts that meet its laws
-    unit_by : (depth : ℕ) (name : List ℕ) (u : Procedure) → find_unit ps name ≡ Some u → IsTrue (inside name) → (w : Facts) (present : Bool) → ListLawsBy (schedules_by sb g) g w (g name).entry (first name) u.body → WayLaws w (last_point (g name).entry (first name) u.body) (g name).end → FitsListBy (schedules_by sb g) lines ps g answers paired carried present w.marks (vars name) (arrays name) (handed_back ps) (first name) u.body →
-        (sh : Var → Shape) (level : ℕ) → KnowsArrays (plan_of g w (arrays name)) sh → ((x : List ℕ) → w.marks.shadowed (plain x) ≡ true → sh (shadow x) ≡ sh (plain x)) → CallsDone depth name w present sh level → SplitsDone depth name w present sh level → DoneBy w present depth name u sh level
-    unit_by depth name u found ins w present laws ends code sh level known shades calls splits s e k left h =
+    -- a list of a unit by facts that meet its laws
+    list_by : (depth : ℕ) (name : List ℕ) (u : Procedure) → find_unit ps name ≡ Some u → IsTrue (inside name) → (w : Facts) (present : Bool) (i d from to : ℕ) (c : Code) → CallsInside inside c → ListLawsBy (schedules_by sb g) g w from i c → WayLaws w (last_point from i c) to → FitsListBy (schedules_by sb g) lines ps g answers paired carried present w.marks (vars name) (arrays name) (handed_back ps) i c →
+        (sh : Var → Shape) (level : ℕ) → KnowsArrays (plan_of g w (arrays name)) sh → ((x : List ℕ) → w.marks.shadowed (plain x) ≡ true → sh (shadow x) ≡ sh (plain x)) → CallsDone depth name w present sh level → SplitsDone depth name w present sh level →
+        (s e : Scene ℤ) (k left : ℕ) → run (calls_of ps depth) (on_words (plainly sh) level) c s k ≡ Done e left →
+        Transposed (calls_of qs depth) lines (calls_of ps depth) sh level (cells_of sh (vars name)) w d present (λ x. writes (handed_back ps) x c) (is_plain w.marks i c) from to c (forward_with (schedules_by sb g) (plan_of g w (arrays name)) i d c) (backward_with (schedules_by sb g) (plan_of g w (arrays name)) i d c) s.store e.store
+    list_by depth name u found ins w present i d from to c within laws ends code sh level known shades calls splits s e k left h =
         let f = fits name u found ins in
-        transposed_to (calls_of qs depth) lines (calls_of ps depth) sh level (cells_of sh (vars name)) w 0 present (λ x. writes (handed_back ps) x u.body) (is_plain w.marks (first name) u.body) (g name).entry (last_point (g name).entry (first name) u.body) (g name).end u.body (forward_with (schedules_by sb g) (plan_of g w (arrays name)) (first name) 0 u.body) (backward_with (schedules_by sb g) (plan_of g w (arrays name)) (first name) 0 u.body) s.store e.store ends
+        transposed_to (calls_of qs depth) lines (calls_of ps depth) sh level (cells_of sh (vars name)) w d present (λ x. writes (handed_back ps) x c) (is_plain w.marks i c) from (last_point from i c) to c (forward_with (schedules_by sb g) (plan_of g w (arrays name)) i d c) (backward_with (schedules_by sb g) (plan_of g w (arrays name)) i d c) s.store e.store ends
         (list_swept sb (calls_of ps depth) (calls_of qs depth) (at_any_line qs depth) lines (calls_of ps depth) ps (handed_back ps) g answers paired carried inside w present (vars name) (arrays name) f.vars_apart sh level known
         (λ n v o c. (fits n v o c).shadowed) (λ n v o c. (fits n v o c).dummies_apart) flags (λ n v o c. (fits n v o c).laws.shadows) (λ n v o c. (fits n v o c).laws.ends.tangents.shadows)
         (λ c s0 e0 k0 l0 done x n j. keeps_others ps depth (on_words (plainly sh) level) c s0 e0 k0 l0 done x n j)
         calls splits (λ x subs a i d line s0 e0 k0 l0 laws af done. assigns name w present sh level depth known shades f.vars_apart x subs a i d line s0 e0 k0 l0 laws af done)
-        u.body (first name) 0 (g name).entry s e k left (closed name u found ins) code laws h)
+        c i d from s e k left within code laws h)
+
+    -- a unit by facts that meet its laws
+    unit_by : (depth : ℕ) (name : List ℕ) (u : Procedure) → find_unit ps name ≡ Some u → IsTrue (inside name) → (w : Facts) (present : Bool) → ListLawsBy (schedules_by sb g) g w (g name).entry (first name) u.body → WayLaws w (last_point (g name).entry (first name) u.body) (g name).end → FitsListBy (schedules_by sb g) lines ps g answers paired carried present w.marks (vars name) (arrays name) (handed_back ps) (first name) u.body →
+        (sh : Var → Shape) (level : ℕ) → KnowsArrays (plan_of g w (arrays name)) sh → ((x : List ℕ) → w.marks.shadowed (plain x) ≡ true → sh (shadow x) ≡ sh (plain x)) → CallsDone depth name w present sh level → SplitsDone depth name w present sh level → DoneBy w present depth name u sh level
+    unit_by depth name u found ins w present laws ends code = list_by depth name u found ins w present (first name) 0 (g name).entry (g name).end u.body (closed name u found ins) laws ends code
 
     -- the facts of a unit's pair meet its laws
     pair_laws : (also : Vars) (name : List ℕ) (u : Procedure) (found : find_unit ps name ≡ Some u) (ins : IsTrue (inside name)) → paired name ≡ true → UnitLawsBy (schedules_by sb g) g (split_own (g name) also) (first name) u.body
@@ -435,6 +450,9 @@ module _ (sb : Bool) (lines : ReversedLines) (ps qs : List Procedure) (g : List 
 
     all_by : (depth : ℕ) → ((own : List ℕ) (u : Procedure) → find_unit ps own ≡ Some u → IsTrue (inside own) → (w : Facts) → ((x : Var) → w.marks.shadowed x ≡ (g own).facts.marks.shadowed x) → (present : Bool) (sh : Var → Shape) (level : ℕ) → ShapesOf own sh → CallsDone depth own w present sh level × SplitsDone depth own w present sh level) → AllDone depth
     all_by depth calls = record {
+      list = λ name u found ins sh level shapes i d from to c within laws ends code.
+          let done = calls name u found ins (g name).facts (λ x. refl) (there name) sh level shapes in
+          list_by depth name u found ins (g name).facts (there name) i d from to c within laws ends code sh level shapes.0 shapes.1 done.0 done.1;
       adjoint = λ name u found ins sh level shapes.
           let f = fits name u found ins in
           let c = calls name u found ins (g name).facts (λ x. refl) (there name) sh level shapes in
@@ -471,6 +489,17 @@ module _ (sb : Bool) (lines : ReversedLines) (ps qs : List Procedure) (g : List 
       list_transposes (schedules_by sb g) (calls_of qs depth) lines (calls_of ps depth) sh level (cells_of sh (vars name)) (λ key o. (cells_only sh (vars name) key o).below) (plan name) (g name).facts 0 (λ x. writes (handed_back ps) x u.body) (is_plain (g name).facts.marks (first name) u.body) (first name) (g name).entry (g name).end u.body s.store e.store (fits name u found ins).laws.shadows
       (subst (λ b. Transposed (calls_of qs depth) lines (calls_of ps depth) sh level (cells_of sh (vars name)) (g name).facts 0 b (λ x. writes (handed_back ps) x u.body) (is_plain (g name).facts.marks (first name) u.body) (g name).entry (g name).end u.body (forward_with (schedules_by sb g) (plan name) (first name) 0 u.body) (backward_with (schedules_by sb g) (plan name) (first name) 0 u.body) s.store e.store) th (unit_swept depth name u found ins sh level shapes s e k left h))
 
+  -- and so do those of its lists
+  pub parts_transpose : (depth : ℕ) (name : List ℕ) (u : Procedure) → find_unit ps name ≡ Some u → IsTrue (inside name) → there name ≡ true → (sh : Var → Shape) (level : ℕ) → ShapesOf name sh →
+      (i d from to : ℕ) (c : Code) → CallsInside inside c → ListLawsBy (schedules_by sb g) g (g name).facts from i c → WayLaws (g name).facts (last_point from i c) to →
+      FitsListBy (schedules_by sb g) lines ps g answers paired carried (there name) (g name).facts.marks (vars name) (arrays name) (handed_back ps) i c →
+      ((v : Var) → In v ((g name).facts.marks.varied from) → In v ((g name).facts.marks.useful from) → In v (g name).facts.marks.shadowed) →
+      (s e : Scene ℤ) (k left : ℕ) → run (calls_of ps depth) (on_words (plainly sh) level) c s k ≡ Done e left →
+      TransposesList (schedules_by sb g) (calls_of qs depth) lines (calls_of ps depth) sh level (cells_of sh (vars name)) (plan name) (g name).facts d (λ x. writes (handed_back ps) x c) i from to c s.store e.store
+  parts_transpose depth name u found ins th sh level shapes i d from to c within laws ends code shadows s e k left h =
+      list_transposes (schedules_by sb g) (calls_of qs depth) lines (calls_of ps depth) sh level (cells_of sh (vars name)) (λ key o. (cells_only sh (vars name) key o).below) (plan name) (g name).facts d (λ x. writes (handed_back ps) x c) (is_plain (g name).facts.marks i c) i from to c s.store e.store shadows
+      (subst (λ b. Transposed (calls_of qs depth) lines (calls_of ps depth) sh level (cells_of sh (vars name)) (g name).facts d b (λ x. writes (handed_back ps) x c) (is_plain (g name).facts.marks i c) from to c (forward_with (schedules_by sb g) (plan name) i d c) (backward_with (schedules_by sb g) (plan name) i d c) s.store e.store) th ((units_swept assignments_done depth).list name u found ins sh level shapes i d from to c within laws ends code s e k left h))
+
   pub pair_transposes : (depth : ℕ) (name : List ℕ) (u : Procedure) → find_unit ps name ≡ Some u → IsTrue (inside name) → paired name ≡ true → (also : Vars) (sh : Var → Shape) (level : ℕ) → ShapesOf name sh → (s e : Scene ℤ) (k left : ℕ) → run (calls_of ps depth) (on_words (plainly sh) level) u.body s k ≡ Done e left →
       TransposesList (schedules_by sb g) (calls_of qs depth) lines (calls_of ps depth) sh level (cells_of sh (vars name)) (plan_of g (split_facts (g name) also) (arrays name)) (split_facts (g name) also) 0 (λ x. writes (handed_back ps) x u.body) (first name) (g name).entry (g name).end u.body s.store e.store
   pair_transposes depth name u found ins is also sh level shapes s e k left h =
@@ -495,3 +524,7 @@ pairs_transpose sb lines ps qs g there answers paired carried first vars arrays 
 pub calls_split : CallsSplit
 calls_split sb lines ps qs g there answers paired carried first vars arrays h depth own name given apart cf ins is sa also sh level shapes line s e k left done =
     call_split sb lines ps qs g there answers paired carried first vars arrays h.inside h.closed h.units h.apart h.common h.emitted h.adjoints h.pairs depth own name given apart cf ins is sa also sh level (shapes.scalars, shapes.shadows) line s e k left done
+
+pub lists_transpose : ListsTranspose
+lists_transpose sb lines ps qs g there answers paired carried first vars arrays h depth name u found ins th sh level shapes i d from to c within laws ends code shadows s e k left done =
+    parts_transpose sb lines ps qs g there answers paired carried first vars arrays h.inside h.closed h.units h.apart h.common h.emitted h.adjoints h.pairs depth name u found ins th sh level (shapes.scalars, shapes.shadows) i d from to c within laws ends code shadows s e k left done

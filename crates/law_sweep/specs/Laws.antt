@@ -9,7 +9,7 @@ use Rattle.def_sweep.specs.Marks.{Marks}
 use Rattle.def_names.specs.Numbering.{point_before, point_after}
 use Rattle.def_sweep.specs.Facts.{In, Within, without, joined, vars_if, in_term, in_terms, whole, Facts, is_adjointed}
 use Rattle.def_meaning.specs.Apart.{has_name}
-use Rattle.def_sweep.specs.AdjointOf.{occurring, reads_at}
+use Rattle.def_sweep.specs.Occurrences.{occurring, reads_at}
 use Rattle.def_sweep.specs.Plan.{beside, IsActual, actuals_named, Schedules, Step, reversed_by, ByStep}
 use Rattle.def_sweep.specs.Callees.{CalleeFacts, nothing}
 

@@ -1,6 +1,6 @@
 -- The statement of the theorem on sweeps, for the units of a program.
 use Rattle.std.specs.Prelude.{◌≡◌, ℕ, suc, ℤ, List, Bool, true, false, IsTrue, Some}
-use Rattle.adj_tree.specs.Code.{Var, plain, shadow, Procedure}
+use Rattle.adj_tree.specs.Code.{Var, plain, shadow, Code, Procedure}
 use Rattle.def_meaning.specs.Store.{Shape, size_of}
 use Rattle.def_meaning.specs.Scene.{Scene, Done}
 use Rattle.def_meaning.specs.Run.{run}
@@ -16,10 +16,11 @@ use Rattle.def_sweep.specs.Emission.{forward_with, backward_with}
 use Rattle.def_sweep.specs.Callees.{nothing, CalleeFacts}
 use Rattle.def_sweep.specs.SplitMarks.{split_facts}
 use Rattle.law_sweep.specs.SplitCalled.{SplitDone}
-use Rattle.law_sweep.specs.Kernel.{CallFits}
+use Rattle.law_sweep.specs.Kernel.{CallFits, FitsListBy}
 use Rattle.def_sweep.specs.SplitRows.{left_of, forth_body, back_body}
 use Rattle.law_sweep.specs.Passing.{plainly}
 use Rattle.law_sweep.specs.Cells.{cells_of}
+use Rattle.law_sweep.specs.Laws.{last_point, WayLaws, ListLawsBy}
 use Rattle.law_sweep.specs.Environment.{UnitFitsBy}
 use Rattle.law_sweep.specs.Emitted.{HasAdjoint, HasUnit}
 use Rattle.law_sweep.specs.Lists.{TransposesList}
@@ -63,6 +64,19 @@ UnitsTranspose =
     (sh : Var → Shape) (level : ℕ) → ShapesFit (plan_of g (g name).facts (arrays name)) sh →
     (s e : Scene ℤ) (k left : ℕ) → run (calls_of ps depth) (on_words (plainly sh) level) u.body s k ≡ Done e left →
     TransposesList (schedules_by schedules g) (calls_of qs depth) lines (calls_of ps depth) sh level (cells_of sh (vars name)) (plan_of g (g name).facts (arrays name)) (g name).facts 0 (λ x. writes (handed_back ps) x u.body) (first name) (g name).entry (g name).end u.body s.store e.store
+
+-- So do those of each list of its statements that meets their laws: it begins with the statement of number i, `from` leads to it, its end leads to `to`, and it
+-- stands in loops of depth d.
+abbrev pub ListsTranspose : Type 0
+ListsTranspose =
+    (schedules : Bool) (lines : ReversedLines) (ps qs : List Procedure) (g : List ℕ → CalleeFacts) (there answers paired carried : List ℕ → Bool) (first : List ℕ → ℕ) (vars : List ℕ → List (List ℕ)) (arrays : List ℕ → Vars) → (fits : ProgramFits schedules lines ps qs g there answers paired carried first vars arrays) →
+    (depth : ℕ) (name : List ℕ) (u : Procedure) → find_unit ps name ≡ Some u → IsTrue (fits.inside name) → there name ≡ true →
+    (sh : Var → Shape) (level : ℕ) → ShapesFit (plan_of g (g name).facts (arrays name)) sh →
+    (i d from to : ℕ) (c : Code) → CallsInside fits.inside c → ListLawsBy (schedules_by schedules g) g (g name).facts from i c → WayLaws (g name).facts (last_point from i c) to →
+    FitsListBy (schedules_by schedules g) lines ps g answers paired carried (there name) (g name).facts.marks (vars name) (arrays name) (handed_back ps) i c →
+    ((v : Var) → In v ((g name).facts.marks.varied from) → In v ((g name).facts.marks.useful from) → In v (g name).facts.marks.shadowed) →
+    (s e : Scene ℤ) (k left : ℕ) → run (calls_of ps depth) (on_words (plainly sh) level) c s k ≡ Done e left →
+    TransposesList (schedules_by schedules g) (calls_of qs depth) lines (calls_of ps depth) sh level (cells_of sh (vars name)) (plan_of g (g name).facts (arrays name)) (g name).facts d (λ x. writes (handed_back ps) x c) i from to c s.store e.store
 
 -- So do the sweeps of the forward and the backward unit of each unit that has them, by the facts about them, where the forward unit agrees with
 -- the program on the dummies of a set besides those that are read.

@@ -9,7 +9,7 @@
 ghost use Rattle.std.specs.Prelude.{◌≡◌, ◌∷◌, [], List, map, true, false, None};
 ghost use Rattle.adj_tree.specs.Code.{Procedure};
 ghost use Rattle.def_sweep.specs.Declared.{unit_name};
-ghost use Rattle.law_sweep.specs.Theorem.{UnitsTranspose, PairsTranspose, CallsSplit};
+ghost use Rattle.law_sweep.specs.Theorem.{UnitsTranspose, ListsTranspose, PairsTranspose, CallsSplit};
 ghost use Rattle.law_sweep.specs.Steps.{ReversalsTurn};
 ghost use Rattle.law_sweep.specs.ReversedRow.{ReversedRowsTurn};
 ghost use Rattle.law_sweep.specs.Source.{EmittedIsAdjoint, FullIsAdjoint, SourceFits};
@@ -24,6 +24,11 @@ ghost use Rattle.law_sweep.specs.Examples.{squares, twice, squares_forward, squa
 /// The sweeps of each unit of a program in kernel form, by marks that meet the local laws, transpose the derivative of its body along each run that is done.
 pub fn units_law()
     ensures { UnitsTranspose }
+{}
+
+/// So do the sweeps of each list of statements in such a unit.
+pub fn lists_law()
+    ensures { ListsTranspose }
 {}
 
 /// The same of the sweeps of the forward and the backward unit of each unit that split calls call, and that these units are a split pair.
