@@ -207,6 +207,8 @@ fn begun(text: &[u8]) -> Option<Kind>
         is_integer(text).then_some(Kind::Integer)
     } else if text.starts_with(b"CALL") {
         Some(Kind::Call)
+    } else if text.starts_with(b"COMMON/") {
+        Some(Kind::Common)
     } else {
         None
     }

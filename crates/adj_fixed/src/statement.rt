@@ -45,7 +45,7 @@ fn keyword_len(kind: Kind, text: &[u8]) -> usize
         Kind::End => 3,
         Kind::Else | Kind::Call => 4,
         Kind::EndIf | Kind::EndDo => 5,
-        Kind::Return | Kind::ElseIf => 6,
+        Kind::Return | Kind::ElseIf | Kind::Common => 6,
         Kind::DoWhile => 7,
         Kind::Continue => 8,
         Kind::Subroutine => 10,

@@ -1,17 +1,18 @@
 -- FormPhrases: what the grammar of texts reads of the lexemes of a statement is the form of what they say.
-use Rattle.std.proofs.Common.{◌≡◌, ℕ, pos, List, [], ◌∷◌, map, Option, Some, None, option_map, refl, ap, ◌∙◌, arith}
+use Rattle.std.proofs.Common.{◌≡◌, ℕ, pos, List, [], ◌∷◌, map, Option, Some, None, option_map, refl, sym, ap, ◌∙◌, arith}
 use Rattle.adj_tree.specs.Code.{Var, plain, Term, Terms, lit, Test, Mark, Act, assign, Extent}
 use Rattle.def_text.specs.Char.{number_of}
 use Rattle.def_text.specs.Condition.{Condition, test}
-use Rattle.def_text.specs.Form.{Form, subroutine, implicit_none, integers, simple, logical, opens_do, opens_while, opens_if, otherwise, otherwise_if, end_do, go_on, end_if, leaves, ends, ReadsForm}
+use Rattle.def_text.specs.Form.{Form, subroutine, implicit_none, integers, common, simple, logical, opens_do, opens_while, opens_if, otherwise, otherwise_if, end_do, go_on, end_if, leaves, ends, ReadsForm}
 use Rattle.def_text.specs.Form as reads
 use Rattle.def_text.specs.Grammar.{with_both, tree}
-use Rattle.def_text.specs.Statement.{Item, called, Range, ReadsPlace, ReadsAssignment, ReadsItem, ReadsItems, ReadsExtent, ReadsCall, ReadsRange, ReadsDo, ReadsGuard, ReadsGuarded}
+use Rattle.def_text.specs.Statement.{Item, called, Range, ReadsPlace, ReadsAssignment, ReadsItem, ReadsItems, have_literals, ReadsCommon, ReadsExtent, ReadsCall, ReadsRange, ReadsDo, ReadsGuard, ReadsGuarded}
 use Rattle.def_text.specs.Statement as statement
 use Rattle.def_text.specs.Lexeme.{Lexeme}
 use Rattle.def_text.specs.declared.stated.Kind.{Kind}
-use Rattle.adj_parse_statement.specs.Phrase.{Entry, Deed, assigns, calls, Size, numbered, named, Declared, Bounds, Phrase, plainly, declares, does, guards, repeats, goes_while, opens, turns, SaysPlace, SaysAssignment, SaysCall, SaysSize, SaysItem, SaysItems, SaysBounds, by_one, by_step, SaysDo, SaysGuard, guard, SaysGuarded, Says}
+use Rattle.adj_parse_statement.specs.Phrase.{Entry, Deed, assigns, calls, Size, numbered, named, Declared, Bounds, Phrase, plainly, declares, shares, does, guards, repeats, goes_while, opens, turns, SaysPlace, SaysAssignment, SaysCall, SaysSize, SaysItem, SaysItems, SaysCommon, SaysBounds, by_one, by_step, SaysDo, SaysGuard, guard, SaysGuarded, Says}
 use Rattle.adj_parse_statement.specs.Phrase as says
+use Rattle.adj_parse_statement.proofs.PhraseForms.{items_literal}
 use Rattle.adj_parse_statement.specs.Said.{list_trees, act, extent, item, range, form}
 
 -- two parts that there are
@@ -53,6 +54,11 @@ items_say (statement.ReadsItems.another {i = i} r q) =
     let ds = items_say q in
     (d.0 ∷ ds.0, says.SaysItems.another d.1 ds.1, ap (λ j. j ∷ map item ds.0) d.2 ∙ ap (λ js. i ∷ js) ds.2)
 
+common_says : {ts : List Lexeme} {b : List ℕ} {is : List Item} → ReadsCommon ts b is → (ds : List Declared) × SaysCommon ts b ds × (map item ds ≡ is)
+common_says (statement.ReadsCommon.block r e) =
+    let ds = items_say r in
+    (ds.0, says.SaysCommon.block ds.1 (sym (items_literal ds.0) ∙ ap have_literals ds.2 ∙ e), ds.2)
+
 -- loops
 range_says : {ts : List Lexeme} {r : Range} → ReadsRange ts r → (b : Bounds) × SaysBounds ts b × (range b ≡ Some r)
 range_says (statement.by_one {x = x} {a = a} {b = b} d e) =
@@ -78,6 +84,7 @@ pub form_says : {mark : Mark} {kind : Kind} {ts : List Lexeme} {f : Form} → Re
 form_says (reads.heading {x = x} {dummies = dummies} g) = (plainly (subroutine x dummies), says.heading g, refl)
 form_says reads.implicit = (plainly implicit_none, says.implicit, refl)
 form_says (reads.declaration g) = let ds = items_say g in (declares ds.0, says.declaration ds.1, ap (λ is. Some (integers is)) ds.2)
+form_says (reads.shared {b = b} g) = let ds = common_says g in (shares b ds.0, says.shared ds.1, ap (λ is. Some (common b is)) ds.2)
 form_says (reads.ReadsForm.assigned g) = let d = assignment_says g in (does d.0, says.Says.assigned d.1, ap (option_map simple) d.2)
 form_says (reads.ReadsForm.calls g) = let d = call_says g in (does d.0, says.Says.called d.1, ap (option_map simple) d.2)
 form_says (reads.guarded {c = t} {a = a} g r) =

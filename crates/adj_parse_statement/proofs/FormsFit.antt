@@ -7,7 +7,7 @@ use Rattle.adj_tree.specs.Code.{Term, Terms, lit, none, Mark, Act, assign, plain
 use Rattle.def_text.specs.Char.{number_of}
 use Rattle.def_text.specs.Condition.{test}
 use Rattle.def_text.specs.Fits.{FitsTerm, FitsTerms, FitsAct, FitsExtent}
-use Rattle.def_text.specs.Form.{Form, subroutine, implicit_none, integers, simple, logical, opens_do, opens_while, end_do, go_on, opens_if, otherwise, otherwise_if, end_if, leaves, ends}
+use Rattle.def_text.specs.Form.{Form, subroutine, implicit_none, integers, common, simple, logical, opens_do, opens_while, end_do, go_on, opens_if, otherwise, otherwise_if, end_if, leaves, ends}
 use Rattle.def_text.specs.Grammar.{Syntax, Arguments, with_both, tree}
 use Rattle.def_text.specs.Statement.{called, Range}
 use Rattle.def_text.specs.Lexeme.{Lexeme}
@@ -82,6 +82,7 @@ pub phrase_fits : {kind : Kind} {ws : List Lexeme} {p : Phrase} → Says kind ws
 phrase_fits (phrases.Says.heading {x = x} {dummies = dummies} d) mark f h e = form_is (subroutine x dummies) f e tt
 phrase_fits phrases.Says.implicit mark f h e = form_is implicit_none f e tt
 phrase_fits (phrases.Says.declaration {is = is} d) mark f h e = form_is (integers (map item is)) f e (items_fit is h)
+phrase_fits (phrases.Says.shared {b = b} {is = is} d) mark f h e = form_is (common b (map item is)) f e (items_fit is h)
 phrase_fits (phrases.Says.assigned {d = d} s) mark f h e = let r = map_some simple (act d) f e in subst FitsForm r.2 (deed_fits d r.0 h r.1)
 phrase_fits (phrases.Says.called {d = d} s) mark f h e = let r = map_some simple (act d) f e in subst FitsForm r.2 (deed_fits d r.0 h r.1)
 phrase_fits (phrases.Says.guarded {c = c} {d = d} g s) mark f h e =

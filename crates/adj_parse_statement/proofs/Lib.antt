@@ -11,6 +11,8 @@ pub mod Loops
 pub mod Phrased
 pub mod PhraseComplete
 pub mod PhraseSound
+pub mod Inner
+pub mod Sharing
 pub mod PhraseForms
 pub mod FormPhrases
 pub mod SaidForms

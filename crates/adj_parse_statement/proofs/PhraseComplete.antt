@@ -1,5 +1,5 @@
 -- PhraseComplete: what the lexemes of a statement say is read.
-use Rattle.std.proofs.Common.{◌≡◌, ◌≤◌, ℕ, List, [], ◌∷◌, ◌++◌, Option, Some, None, option_map, refl, ap, ◌∙◌, append_assoc, arith}
+use Rattle.std.proofs.Common.{◌≡◌, ◌≤◌, ℕ, Bool, cond, List, [], ◌∷◌, ◌++◌, Option, Some, None, option_map, refl, ap, ◌∙◌, append_assoc, arith}
 use Rattle.def_text.proofs.Unique.{reads_itself}
 use Rattle.def_text.specs.Condition.{Condition}
 use Rattle.def_text.specs.Form.{subroutine}
@@ -12,9 +12,9 @@ use Rattle.def_text.specs.declared.stated.Kind.{Kind}
 use Rattle.def_text.specs.declared.token.TokenKind.TheVariants.{Right, Comma, Equals}
 use Rattle.adj_parse_expression.proofs.ConditionUnique.{test_reads_itself}
 use Rattle.adj_parse_expression.specs.Reading.{read_expression}
-use Rattle.adj_parse_statement.specs.Phrase.{Entry, Deed, assigns, calls, Size, Declared, Bounds, Phrase, plainly, declares, does, guards, repeats, goes_while, opens, turns, SaysPlace, SaysAssignment, SaysCall, SaysSize, SaysItem, SaysItems, SaysBounds, by_one, by_step, SaysDo, SaysGuard, guard, SaysGuarded, Says}
+use Rattle.adj_parse_statement.specs.Phrase.{Entry, Deed, assigns, calls, Size, Declared, Bounds, are_numbered, Phrase, plainly, declares, shares, does, guards, repeats, goes_while, opens, turns, SaysPlace, SaysAssignment, SaysCall, SaysSize, SaysItem, SaysItems, SaysCommon, SaysBounds, by_one, by_step, SaysDo, SaysGuard, guard, SaysGuarded, Says}
 use Rattle.adj_parse_statement.specs.Phrase as says
-use Rattle.adj_parse_statement.specs.Phrases.{Read, ◌>>=◌, name_at, digits_at, behind_left, behind_right, behind_comma, behind_equals, behind_call, ended, members_behind, with_last, read_arguments, second_subscript, read_subscripts, read_place, read_assignment, actuals_in, read_actuals, read_call, read_names, dummies_in, read_dummies, read_head, size_at, second_size, read_sizes, item_behind, read_item, read_items, read_step, read_bounds, label_behind, without_comma, read_label, read_do, read_guard, guarded_behind, read_guarded, read_logical, read_test, phrase_of}
+use Rattle.adj_parse_statement.specs.Phrases.{Read, ◌>>=◌, name_at, digits_at, behind_left, behind_right, behind_comma, behind_equals, behind_call, ended, members_behind, with_last, read_arguments, second_subscript, read_subscripts, read_place, read_assignment, actuals_in, read_actuals, read_call, read_names, dummies_in, read_dummies, read_head, size_at, second_size, read_sizes, item_behind, read_item, read_items, sharing, read_common, read_step, read_bounds, label_behind, without_comma, read_label, read_do, read_guard, guarded_behind, read_guarded, read_logical, read_test, phrase_of}
 use Rattle.adj_parse_statement.proofs.Lists.{names_on}
 use Rattle.adj_parse_statement.proofs.Members.{members_on}
 use Rattle.adj_parse_statement.proofs.Shorter.{read_expression-shortens, read_item-shortens}
@@ -141,6 +141,12 @@ items_read (says.another {ts = ts} {us = us} {i = i} {is = is} r q) =
     ap (λ (o : Read Declared). o >>= λ i. members_behind with_last read_item (i.0 ∷ []) i.1 >>= λ all. ended all.0 all.1) (item_read r refl)
     ∙ ap (λ (o : Read (List Declared)). o >>= λ all. ended all.0 all.1) (items_behind q (i ∷ []))
 
+-- the items of a block
+common_read : {ts : List Lexeme} {b : List ℕ} {is : List Declared} → SaysCommon ts b is → read_common ts ≡ Some (b, is)
+unfolding read_common
+common_read (says.SaysCommon.block {b = b} {is = is} r e) =
+    ap (λ (o : Option (List Declared)). o >>= sharing b) (items_read r) ∙ ap (λ (n : Bool). cond n (Some (b, is)) None) e
+
 -- loops
 bounds_read : {ts : List Lexeme} {b : Bounds} → SaysBounds ts b → read_bounds ts ≡ Some b
 unfolding read_bounds read_step
@@ -195,6 +201,7 @@ pub phrase_read : {kind : Kind} {ws : List Lexeme} {p : Phrase} → Says kind ws
 phrase_read (says.Says.heading h) = ap (option_map plainly) (head_read h)
 phrase_read says.Says.implicit = refl
 phrase_read (says.Says.declaration h) = ap (option_map declares) (items_read h)
+phrase_read (says.Says.shared h) = ap (option_map (λ (p : List ℕ × List Declared). shares p.0 p.1)) (common_read h)
 phrase_read (says.Says.assigned h) = ap (option_map does) (assignment_read h)
 phrase_read (says.Says.called h) = ap (option_map does) (call_read h)
 phrase_read (says.Says.guarded g h) = ap (option_map (λ (q : Condition × Deed). guards q.0 q.1)) (logical_read g h)

@@ -1,20 +1,21 @@
 -- PhraseForms: the form of what the lexemes of a statement say is what the grammar of texts gives them, and the other way round.
-use Rattle.std.proofs.Common.{◌≡◌, ◌⊎◌, inl, inr, pos, List, [], ◌∷◌, map, Some, None, option_map, refl, sym, ap, ◌∙◌, subst}
+use Rattle.std.proofs.Common.{◌≡◌, ◌⊎◌, inl, inr, ℕ, pos, Bool, true, false, ◌&&◌, List, [], ◌∷◌, map, Some, None, option_map, refl, sym, ap, ◌∙◌, subst}
+use Rattle.std.specs.List.{list_all}
 use Rattle.def_text.proofs.Parts.{map_some, both_some}
 use Rattle.adj_tree.specs.Code as trees
 use Rattle.adj_tree.specs.Code.{plain, Term, Terms, lit, none, Test, unmarked, Act, assign}
 use Rattle.def_text.specs.Char.{number_of}
 use Rattle.def_text.specs.Condition.{Condition, test}
-use Rattle.def_text.specs.Form.{Form, integers, simple, logical, opens_do, opens_while, opens_if, otherwise_if, ReadsForm}
+use Rattle.def_text.specs.Form.{Form, integers, common, simple, logical, opens_do, opens_while, opens_if, otherwise_if, ReadsForm}
 use Rattle.def_text.specs.Form as reads
 use Rattle.def_text.specs.Grammar.{with_both, tree, trees_before}
-use Rattle.def_text.specs.Statement.{Item, called, Range, ReadsPlace, ReadsAssignment, ReadsItem, ReadsItems, ReadsExtent, ReadsCall, ReadsRange, ReadsDo, ReadsGuard, ReadsGuarded}
+use Rattle.def_text.specs.Statement.{Item, called, Range, ReadsPlace, ReadsAssignment, is_literal_extent, have_literals, ReadsCommon, ReadsItem, ReadsItems, ReadsExtent, ReadsCall, ReadsRange, ReadsDo, ReadsGuard, ReadsGuarded}
 use Rattle.def_text.specs.Statement as statement
 use Rattle.def_text.specs.Lexeme.{Lexeme, Named, Digits, Mark}
 use Rattle.def_text.specs.declared.stated.Kind.{Kind}
 use Rattle.def_text.specs.declared.stated.Kind.TheVariants.{Do, BlockIf, LogicalIf, ElseIf, DoWhile}
 use Rattle.def_text.specs.declared.token.TokenKind.TheVariants.{Left, Right, Comma, Equals}
-use Rattle.adj_parse_statement.specs.Phrase.{Entry, Deed, assigns, calls, Size, numbered, named, Declared, Bounds, Phrase, plainly, declares, does, guards, repeats, opens, turns, SaysPlace, SaysAssignment, SaysCall, SaysSize, SaysItem, SaysItems, SaysBounds, by_one, by_step, SaysDo, SaysGuard, guard, SaysGuarded, Says}
+use Rattle.adj_parse_statement.specs.Phrase.{Entry, Deed, assigns, calls, Size, numbered, named, Declared, Bounds, is_numbered, are_numbered, Phrase, plainly, declares, shares, does, guards, repeats, opens, turns, SaysPlace, SaysAssignment, SaysCall, SaysSize, SaysItem, SaysItems, SaysCommon, SaysBounds, by_one, by_step, SaysDo, SaysGuard, guard, SaysGuarded, Says}
 use Rattle.adj_parse_statement.specs.Phrase as says
 use Rattle.adj_parse_statement.specs.Said.{list_trees, act, extent, item, range, form}
 
@@ -48,6 +49,22 @@ item_form (says.table r q) = statement.table (size_form r) (size_form q)
 items_form : {ts : List Lexeme} {is : List Declared} → SaysItems ts is → ReadsItems ts (map item is)
 items_form (says.SaysItems.last r) = statement.ReadsItems.last (item_form r)
 items_form (says.SaysItems.another r q) = statement.ReadsItems.another (item_form r) (items_form q)
+
+-- digits are literals
+size_literal : (s : Size) → is_literal_extent (extent s) ≡ is_numbered s
+size_literal (numbered digits) = refl
+size_literal (named x) = refl
+
+sizes_literal : (ss : List Size) → list_all is_literal_extent (map extent ss) ≡ list_all is_numbered ss
+sizes_literal [] = refl
+sizes_literal (s ∷ ss) = ap (λ (b : Bool). b && list_all is_literal_extent (map extent ss)) (size_literal s) ∙ ap (λ (b : Bool). is_numbered s && b) (sizes_literal ss)
+
+pub items_literal : (is : List Declared) → have_literals (map item is) ≡ are_numbered is
+items_literal [] = refl
+items_literal (i ∷ is) = ap (λ (b : Bool). b && have_literals (map item is)) (sizes_literal i.sizes) ∙ ap (λ (b : Bool). list_all is_numbered i.sizes && b) (items_literal is)
+
+common_form : {ts : List Lexeme} {b : List ℕ} {is : List Declared} → SaysCommon ts b is → ReadsCommon ts b (map item is)
+common_form (says.SaysCommon.block {is = is} r e) = statement.ReadsCommon.block (items_form r) (items_literal is ∙ e)
 
 -- loops
 range_form : {ts : List Lexeme} {b : Bounds} → SaysBounds ts b → (r : Range) → range b ≡ Some r → ReadsRange ts r
@@ -94,6 +111,7 @@ pub form_reads : {mark : trees.Mark} {kind : Kind} {ts : List Lexeme} {p : Phras
 form_reads (says.heading {x = x} {dummies = dummies} g) f h m = plain_form (reads.subroutine x dummies) f m (λ e. cc) (reads.heading g) h
 form_reads says.implicit f h m = plain_form reads.implicit_none f m (λ e. cc) reads.implicit h
 form_reads (says.declaration {is = is} g) f h m = plain_form (integers (map item is)) f m (λ e. cc) (reads.declaration (items_form g)) h
+form_reads (says.shared {b = b} {is = is} g) f h m = plain_form (common b (map item is)) f m (λ e. cc) (reads.shared (common_form g)) h
 form_reads (says.Says.assigned {d = d} g) f h m = does_form d f m (λ e. cc) (λ a k. reads.ReadsForm.assigned (assignment_form g a k)) h
 form_reads (says.Says.called {d = d} g) f h m = does_form d f m (λ e. cc) (λ a k. reads.calls (call_form g a k)) h
 form_reads {mark} (says.guarded {ts = ts} {c = c} {d = d} g r) f h m = let k = both_some logical (test c) (act d) f h in subst (ReadsForm mark LogicalIf ts) k.4 (without_mark (logical k.0 k.1) m (λ e. cc) (reads.guarded (guard_form g k.0 k.2) (guarded_form r k.1 k.3)))

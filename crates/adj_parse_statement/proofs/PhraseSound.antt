@@ -1,5 +1,5 @@
 -- PhraseSound: what is read of a statement is what its lexemes say.
-use Rattle.std.proofs.Common.{◌≡◌, ◌≤◌, ℕ, zero, suc, List, [], ◌∷◌, ◌++◌, length, Option, Some, None, option_map, IfSome, refl, sym, ap, ◌∙◌, subst, append_assoc, append-nil, arith}
+use Rattle.std.proofs.Common.{◌≡◌, ◌≤◌, Bool, true, false, cond, ℕ, zero, suc, List, [], ◌∷◌, ◌++◌, length, Option, Some, None, option_map, IfSome, refl, sym, ap, ◌∙◌, subst, append_assoc, append-nil, arith}
 use Rattle.def_text.proofs.Unique.{itself_derived}
 use Rattle.def_text.specs.Condition.{Condition, Whole, DerivesCondition}
 use Rattle.def_text.specs.Form.{subroutine}
@@ -9,12 +9,12 @@ use Rattle.def_text.specs.Statement as statement
 use Rattle.def_text.specs.Lexeme.{Lexeme, Named, Digits, Mark}
 use Rattle.def_text.specs.declared.stated.Kind.{Kind}
 use Rattle.def_text.specs.declared.stated.Kind.TheVariants as kind
-use Rattle.def_text.specs.declared.token.TokenKind.TheVariants.{Left, Right, Comma, Equals, Call}
+use Rattle.def_text.specs.declared.token.TokenKind.TheVariants.{Slash, Left, Right, Comma, Equals, Call}
 use Rattle.adj_parse_expression.proofs.ConditionUnique.{test_itself_derived}
 use Rattle.adj_parse_expression.specs.Reading.{read_expression, read_condition}
-use Rattle.adj_parse_statement.specs.Phrase.{Entry, Deed, assigns, calls, Size, numbered, named, Declared, Bounds, Phrase, plainly, declares, does, guards, repeats, goes_while, opens, turns, SaysPlace, SaysAssignment, SaysCall, SaysSize, SaysItem, SaysItems, SaysBounds, by_one, by_step, SaysDo, SaysGuard, guard, SaysGuarded, Says}
+use Rattle.adj_parse_statement.specs.Phrase.{Entry, Deed, assigns, calls, Size, numbered, named, Declared, Bounds, are_numbered, Phrase, plainly, declares, shares, does, guards, repeats, goes_while, opens, turns, SaysPlace, SaysAssignment, SaysCall, SaysSize, SaysItem, SaysItems, SaysCommon, SaysBounds, by_one, by_step, SaysDo, SaysGuard, guard, SaysGuarded, Says}
 use Rattle.adj_parse_statement.specs.Phrase as says
-use Rattle.adj_parse_statement.specs.Phrases.{Read, ◌>>=◌, name_at, behind_right, behind_comma, behind_equals, ended, members, members_behind, with_last, read_arguments, second_subscript, read_subscripts, read_place, read_assignment, actuals_in, read_actuals, read_call, read_names, dummies_in, read_dummies, read_head, size_at, second_size, read_sizes, read_item, read_items, read_step, read_bounds, read_label, read_do, read_guard, read_guarded, read_logical, read_test, phrase_of}
+use Rattle.adj_parse_statement.specs.Phrases.{Read, ◌>>=◌, name_at, behind_right, behind_comma, behind_equals, ended, members, members_behind, with_last, read_arguments, second_subscript, read_subscripts, read_place, read_assignment, actuals_in, read_actuals, read_call, read_names, dummies_in, read_dummies, read_head, size_at, second_size, read_sizes, read_item, read_items, sharing, read_common, read_step, read_bounds, read_label, read_do, read_guard, read_guarded, read_logical, read_test, phrase_of}
 
 -- expressions separated by commas
 members_derived : (n : ℕ) (ws us : List Lexeme) (front : Arguments) → DerivesAll ws us front → IfSome (members beside read_expression n front us) (λ r. DerivesAll ws r.1 r.0)
@@ -238,7 +238,7 @@ items_follow : {ts us : List Lexeme} {is : List Declared} (i : Declared) → Fol
 items_follow i none h = says.SaysItems.last h
 items_follow i (next {x = j} k f) h = says.SaysItems.another h (items_follow j f k)
 
-items_said : (ws : List Lexeme) → IfSome (read_items ws) (SaysItems ws)
+pub items_said : (ws : List Lexeme) → IfSome (read_items ws) (SaysItems ws)
 unfolding read_items members_behind
 items_said ws = first (read_item ws) (item_said ws)
   where
@@ -253,6 +253,25 @@ items_said ws = first (read_item ws) (item_said ws)
     first : (o : Read Declared) → IfSome o (λ r. SaysItem ws r.1 r.0) → IfSome (o >>= λ i. members with_last read_item (length i.1) (i.0 ∷ []) i.1 >>= λ r. ended r.0 r.1) (SaysItems ws)
     first None h = tt
     first (Some i) h = all i.0 i.1 h (members with_last read_item (length i.1) (i.0 ∷ []) i.1) (members_follow SaysItem read_item item_said (length i.1) (i.0 ∷ []) i.1)
+
+-- the items of a block
+common_said : (ws : List Lexeme) → IfSome (read_common ws) (λ p. SaysCommon ws p.0 p.1)
+unfolding read_common
+common_said [] = tt
+common_said (Mark Slash ∷ Named b ∷ Mark Slash ∷ ts) = all (read_items ts) (items_said ts)
+  where
+    chosen : (is : List Declared) → SaysItems ts is → (n : Bool) → are_numbered is ≡ n → IfSome {T = List ℕ × List Declared} (cond n (Some (b, is)) None) (λ p. SaysCommon (Mark Slash ∷ Named b ∷ Mark Slash ∷ ts) p.0 p.1)
+    chosen is h true e = says.SaysCommon.block h e
+    chosen is h false e = tt
+
+    all : (o : Option (List Declared)) → IfSome o (SaysItems ts) → IfSome (o >>= sharing b) (λ p. SaysCommon (Mark Slash ∷ Named b ∷ Mark Slash ∷ ts) p.0 p.1)
+    all None h = tt
+    all (Some is) h = chosen is h (are_numbered is) refl
+common_said (Mark Slash ∷ Named b ∷ w ∷ ts) = tt
+common_said (Mark Slash ∷ Named b ∷ []) = tt
+common_said (Mark Slash ∷ w ∷ ts) = tt
+common_said (Mark Slash ∷ []) = tt
+common_said (w ∷ ts) = tt
 
 -- loops
 bounds_said : (ws : List Lexeme) → IfSome (read_bounds ws) (SaysBounds ws)
@@ -368,6 +387,7 @@ made k ws make P rule (Some a) h = rule a h
 pub phrase_said : (k : Kind) (ws : List Lexeme) → IfSome (phrase_of k ws) (Says k ws)
 phrase_said kind.Subroutine ws = head_said ws
 phrase_said kind.Integer ws = made kind.Integer ws declares (SaysItems ws) (λ is h. says.Says.declaration h) (read_items ws) (items_said ws)
+phrase_said kind.Common ws = made kind.Common ws (λ (p : List ℕ × List Declared). shares p.0 p.1) (λ p. SaysCommon ws p.0 p.1) (λ p h. says.Says.shared h) (read_common ws) (common_said ws)
 phrase_said kind.Assign ws = made kind.Assign ws does (SaysAssignment ws) (λ d h. says.Says.assigned h) (read_assignment ws) (assignment_said ws)
 phrase_said kind.Call ws = made kind.Call ws does (SaysCall ws) (λ d h. says.Says.called h) (read_call ws) (call_said ws)
 phrase_said kind.LogicalIf ws = logical_said ws

@@ -3,19 +3,19 @@ use Rattle.std.proofs.Common.{◌≡◌, ℕ, false, List, [], ◌∷◌, map, O
 use Rattle.std.specs.List.{list_any}
 use Rattle.adj_tree.specs.Code.{Test, Mark, Act}
 use Rattle.def_text.specs.Condition.{Condition, test}
-use Rattle.def_text.specs.Form.{Form, implicit_none, integers, simple, logical, opens_do, opens_while, opens_if, otherwise, otherwise_if, end_do, go_on, end_if, leaves, ends}
-use Rattle.def_text.specs.Statement.{Range}
+use Rattle.def_text.specs.Form.{Form, implicit_none, integers, common, simple, logical, opens_do, opens_while, opens_if, otherwise, otherwise_if, end_do, go_on, end_if, leaves, ends}
+use Rattle.def_text.specs.Statement.{Item, Range}
 use Rattle.def_text.specs.Char.{number_of}
 use Rattle.def_text.specs.Lexeme.{Lexeme}
 use Rattle.def_text.specs.declared.stated.Kind.{Kind}
-use Rattle.def_text.specs.declared.stated.Kind.TheVariants.{Do, BlockIf, LogicalIf, Assign, Continue, Return, End, EndIf, EndDo, Else, ImplicitNone, ElseIf, DoWhile, Subroutine, Integer, Call}
+use Rattle.def_text.specs.declared.stated.Kind.TheVariants.{Do, BlockIf, LogicalIf, Assign, Continue, Return, End, EndIf, EndDo, Else, ImplicitNone, ElseIf, DoWhile, Subroutine, Integer, Call, Common}
 use Rattle.adj_parse_expression.specs.Judged.{test_large, judged_test}
 use Rattle.adj_parse_expression.specs.View.{seen}
 use Rattle.adj_parse_expression.specs.declared.flaw.Flaw.{Flaw}
-use Rattle.adj_parse_statement.specs.Phrase.{Deed, Bounds, plainly, declares, does, guards, repeats, goes_while, opens, turns}
-use Rattle.adj_parse_statement.specs.Phrases.{ended, read_head, read_items, read_assignment, read_call, read_logical, read_do, read_test}
+use Rattle.adj_parse_statement.specs.Phrase.{Deed, Declared, Bounds, plainly, declares, shares, does, guards, repeats, goes_while, opens, turns}
+use Rattle.adj_parse_statement.specs.Phrases.{ended, read_head, read_items, read_common, read_assignment, read_call, read_logical, read_do, read_test}
 use Rattle.adj_parse_statement.specs.Said.{item_large, item, deed_large, deed_deep, act, bounds_large, bounds_deep, range, test_deep, judged_phrase, said}
-use Rattle.adj_parse_statement.specs.Fronts.{judged_items, judged_deed, front_assignment, front_call, judged_logical, front_logical, judged_bounds, judged_loop, front_do, front_test}
+use Rattle.adj_parse_statement.specs.Fronts.{judged_items, judged_common, judged_deed, front_assignment, front_call, judged_logical, front_logical, judged_bounds, judged_loop, front_do, front_test}
 use Rattle.adj_parse_statement.proofs.Judging.{seen-judged, seen-seen, joined-judged}
 
 -- what a call found, seen through what it is made into
@@ -54,6 +54,11 @@ said_subroutine limit mark ws = go (read_head ws)
 pub said_integer : (limit : ℕ) (mark : Mark) (ws : List Lexeme) → said limit mark Integer ws ≡ option_map (seen integers) (option_map judged_items (read_items ws))
 unfolding said
 said_integer limit mark ws = again declares (judged_phrase limit mark) judged_items (seen integers) (λ is. sym (seen-judged integers (list_any item_large is) false (Some (map item is)))) (read_items ws)
+
+pub said_common : (limit : ℕ) (mark : Mark) (ws : List Lexeme) → said limit mark Common ws ≡ option_map (seen (λ (p : List ℕ × List Item). common p.0 p.1)) (option_map judged_common (read_common ws))
+unfolding said
+said_common limit mark ws =
+    again (λ (p : List ℕ × List Declared). shares p.0 p.1) (judged_phrase limit mark) judged_common (seen (λ (p : List ℕ × List Item). common p.0 p.1)) (λ (p : List ℕ × List Declared). sym (seen-seen (λ (q : List ℕ × List Item). common q.0 q.1) (λ (is : List Item). (p.0, is)) (judged_items p.1) ∙ seen-judged (λ (is : List Item). common p.0 is) (list_any item_large p.1) false (Some (map item p.1)))) (read_common ws)
 
 deed_said : (limit : ℕ) (mark : Mark) (d : Deed) → judged_phrase limit mark (does d) ≡ seen simple (judged_deed limit d)
 deed_said limit mark d = sym (seen-judged simple (deed_large d) (deed_deep limit d) (act d))
@@ -121,4 +126,4 @@ pub said_end : (limit : ℕ) (mark : Mark) (ws : List Lexeme) → said limit mar
 unfolding said
 said_end limit mark ws = lexeme_said limit mark ends ws
 
-pub ruleset classes = (said_subroutine, said_integer, said_assign, said_call, said_logical, said_do, said_do_while, said_block_if, said_else_if, said_implicit, said_end_do, said_continue, said_else, said_end_if, said_return, said_end)
+pub ruleset classes = (said_subroutine, said_integer, said_common, said_assign, said_call, said_logical, said_do, said_do_while, said_block_if, said_else_if, said_implicit, said_end_do, said_continue, said_else, said_end_if, said_return, said_end)

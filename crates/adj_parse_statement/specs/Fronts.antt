@@ -34,6 +34,10 @@ judged_item i = judged_by (item_large i) false (Some (item i))
 abbrev pub judged_items : List Declared → Result (List Item) Flaw
 judged_items is = judged_by (list_any item_large is) false (Some (map item is))
 
+-- a block and its items, where their literals are words
+abbrev pub judged_common : List ℕ × List Declared → Result (List ℕ × List Item) Flaw
+judged_common p = seen (λ is. (p.0, is)) (judged_items p.1)
+
 unfoldable pub front_size : List Lexeme → Read (Result Extent Flaw)
 front_size ws = read_as judged_size (size_at ws)
 

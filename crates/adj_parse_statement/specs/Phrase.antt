@@ -1,12 +1,13 @@
 -- Phrase: what the lexemes of a statement say, with its expressions and conditions as they are written.
-use Rattle.std.specs.Prelude.{ℕ, ◌≤◌, List, [], ◌∷◌, Option, Some, None}
+use Rattle.std.specs.Prelude.{◌≡◌, ℕ, ◌≤◌, Bool, true, false, List, [], ◌∷◌, Option, Some, None}
+use Rattle.std.specs.List.{list_all}
 use Rattle.def_text.specs.Condition.{Condition, Whole, DerivesCondition}
 use Rattle.def_text.specs.Form.{Form, subroutine, implicit_none, end_do, go_on, otherwise, end_if, leaves, ends}
 use Rattle.def_text.specs.Grammar.{Syntax, Arguments, count_of, Sum, Derives, DerivesAll}
 use Rattle.def_text.specs.Statement.{ReadsHead}
 use Rattle.def_text.specs.Lexeme.{Lexeme, Named, Digits, Mark}
 use Rattle.def_text.specs.declared.stated.Kind.{Kind}
-use Rattle.def_text.specs.declared.stated.Kind.TheVariants.{Do, BlockIf, LogicalIf, Assign, Continue, Return, End, EndIf, EndDo, Else, ImplicitNone, ElseIf, DoWhile, Subroutine, Integer, Call}
+use Rattle.def_text.specs.declared.stated.Kind.TheVariants.{Do, BlockIf, LogicalIf, Assign, Continue, Return, End, EndIf, EndDo, Else, ImplicitNone, ElseIf, DoWhile, Subroutine, Integer, Call, Common}
 use Rattle.def_text.specs.declared.token.TokenKind.TheVariants as mark
 
 -- a name, with its subscripts or its actuals in parentheses, or without
@@ -40,6 +41,8 @@ pub record Bounds : Type 0 where
 pub data Phrase : Type 0 where
   plainly : Form → Phrase
   declares : List Declared → Phrase
+  -- the block of a COMMON statement and its items
+  shares : List ℕ → List Declared → Phrase
   does : Deed → Phrase
   guards : Condition → Deed → Phrase
   -- the digits behind DO, where there are any
@@ -76,6 +79,18 @@ pub data SaysItems : List Lexeme → List Declared → Type 0 where
   last : {ts : List Lexeme} {i : Declared} → SaysItem ts [] i → SaysItems ts (i ∷ [])
   another : {ts us : List Lexeme} {i : Declared} {is : List Declared} → SaysItem ts (Mark mark.Comma ∷ us) i → SaysItems us is → SaysItems ts (i ∷ is)
 
+abbrev pub is_numbered : Size → Bool
+is_numbered (numbered digits) = true
+is_numbered (named x) = false
+
+-- whether each extent of each item is digits
+abbrev pub are_numbered : List Declared → Bool
+are_numbered is = list_all (λ i. list_all is_numbered i.sizes) is
+
+-- behind COMMON: the name of a block between slashes, and items separated by commas, whose extents are digits
+pub data SaysCommon : List Lexeme → List ℕ → List Declared → Type 0 where
+  block : {b : List ℕ} {ts : List Lexeme} {is : List Declared} → SaysItems ts is → are_numbered is ≡ true → SaysCommon (Mark mark.Slash ∷ Named b ∷ Mark mark.Slash ∷ ts) b is
+
 pub data SaysBounds : List Lexeme → Bounds → Type 0 where
   by_one : {x : List ℕ} {ts us : List Lexeme} {a b : Syntax} → Derives Sum ts (Mark mark.Comma ∷ us) a → Derives Sum us [] b → SaysBounds (Named x ∷ Mark mark.Equals ∷ ts) (record { counter = x; from = a; to = b; by = None })
   by_step : {x : List ℕ} {ts us vs : List Lexeme} {a b c : Syntax} → Derives Sum ts (Mark mark.Comma ∷ us) a → Derives Sum us (Mark mark.Comma ∷ vs) b → Derives Sum vs [] c → SaysBounds (Named x ∷ Mark mark.Equals ∷ ts) (record { counter = x; from = a; to = b; by = Some c })
@@ -100,6 +115,7 @@ pub data Says : Kind → List Lexeme → Phrase → Type 0 where
   heading : {ts : List Lexeme} {x : List ℕ} {dummies : List (List ℕ)} → ReadsHead ts x dummies → Says Subroutine ts (plainly (subroutine x dummies))
   implicit : Says ImplicitNone [] (plainly implicit_none)
   declaration : {ts : List Lexeme} {is : List Declared} → SaysItems ts is → Says Integer ts (declares is)
+  shared : {ts : List Lexeme} {b : List ℕ} {is : List Declared} → SaysCommon ts b is → Says Common ts (shares b is)
   assigned : {ts : List Lexeme} {d : Deed} → SaysAssignment ts d → Says Assign ts (does d)
   called : {ts : List Lexeme} {d : Deed} → SaysCall ts d → Says Call ts (does d)
   guarded : {ts us : List Lexeme} {c : Condition} {d : Deed} → SaysGuard ts us c → SaysGuarded us d → Says LogicalIf ts (guards c d)

@@ -1,5 +1,5 @@
 -- Phrases: how the lexemes of a statement are read, from the front.
-use Rattle.std.specs.Prelude.{if◌then◌else◌, Bool, true, false, ℕ, zero, suc, List, [], ◌∷◌, ◌++◌, length, Option, Some, None, option_map, option_and_then}
+use Rattle.std.specs.Prelude.{if◌then◌else◌, ◌&&◌, Bool, true, false, ℕ, zero, suc, List, [], ◌∷◌, ◌++◌, map, length, Option, Some, None, option_map, option_and_then}
 use denote.Enum.Bare.{sameb}
 use Rattle.def_text.specs.Condition.{Condition}
 use Rattle.def_text.specs.Form.{Form, subroutine, implicit_none, end_do, go_on, otherwise, end_if, leaves, ends}
@@ -10,9 +10,9 @@ use Rattle.def_text.specs.declared.stated.Kind.{Kind}
 use Rattle.def_text.specs.declared.stated.Kind.TheVariants as kind
 use Rattle.def_text.specs.contracts.token.TokenKind.{the_type}
 use Rattle.def_text.specs.declared.token.TokenKind.{TokenKind}
-use Rattle.def_text.specs.declared.token.TokenKind.TheVariants.{Name, Number, Left, Right, Comma, Equals, Call}
+use Rattle.def_text.specs.declared.token.TokenKind.TheVariants.{Name, Number, Slash, Left, Right, Comma, Equals, Call}
 use Rattle.adj_parse_expression.specs.Reading.{read_expression, read_condition}
-use Rattle.adj_parse_statement.specs.Phrase.{Entry, Deed, assigns, calls, Size, numbered, named, Declared, Bounds, Phrase, plainly, declares, does, guards, repeats, goes_while, opens, turns}
+use Rattle.adj_parse_statement.specs.Phrase.{Entry, Deed, assigns, calls, Size, numbered, named, Declared, Bounds, are_numbered, Phrase, plainly, declares, shares, does, guards, repeats, goes_while, opens, turns}
 
 -- what is read at the front of some lexemes, and the lexemes behind it
 abbrev pub Read : Type 0 → Type 0
@@ -50,6 +50,9 @@ behind kind [] = None
 behind kind (w ∷ ws) = if same_kind (kind_of w) kind then Some ws else None
 
 -- those behind a mark
+abbrev pub behind_slash : List Lexeme → Option (List Lexeme)
+behind_slash ws = behind Slash ws
+
 abbrev pub behind_left : List Lexeme → Option (List Lexeme)
 behind_left ws = behind Left ws
 
@@ -178,6 +181,38 @@ read_items ws = do
   all ← members_behind with_last read_item (first.0 ∷ []) first.1
   ended all.0 all.1
 
+-- the name of a block between slashes
+abbrev pub block_at : List Lexeme → Read (List ℕ)
+block_at ws = do
+  us ← behind_slash ws
+  b ← name_at us
+  vs ← behind_slash b.1
+  Some (b.0, vs)
+
+-- items that share a block, where each of their extents is digits
+abbrev pub sharing : List ℕ → List Declared → Option (List ℕ × List Declared)
+sharing b is = if are_numbered is then Some (b, is) else None
+
+unfoldable pub read_common : List Lexeme → Option (List ℕ × List Declared)
+read_common ws = block_at ws >>= λ b. read_items b.1 >>= sharing b.0
+
+-- whether what stands behind a lexeme of this kind stands in parentheses
+abbrev pub inside_behind : Bool → TokenKind → Bool
+inside_behind inside Left = true
+inside_behind inside Right = false
+inside_behind inside kind = inside
+
+abbrev pub is_inner_name : Bool → TokenKind → Bool
+is_inner_name inside kind = inside && same_kind kind Name
+
+-- whether a name is among lexemes of these kinds that stands in parentheses
+unfoldable pub has_inner_name : Bool → List TokenKind → Bool
+has_inner_name inside [] = false
+has_inner_name inside (k ∷ ks) = if is_inner_name inside k then true else has_inner_name (inside_behind inside k) ks
+
+abbrev pub have_inner_name : List Lexeme → Bool
+have_inner_name ws = has_inner_name false (map kind_of ws)
+
 -- the step of a loop, where it has one
 abbrev pub step_behind : List Lexeme → Option (Option Syntax)
 step_behind ws = do
@@ -242,6 +277,7 @@ read_test ws = read_guard ws >>= λ c. ended c.0 c.1
 abbrev pub phrase_of : Kind → List Lexeme → Option Phrase
 phrase_of kind.Subroutine ws = option_map plainly (read_head ws)
 phrase_of kind.Integer ws = option_map declares (read_items ws)
+phrase_of kind.Common ws = option_map (λ p. shares p.0 p.1) (read_common ws)
 phrase_of kind.Assign ws = option_map does (read_assignment ws)
 phrase_of kind.Call ws = option_map does (read_call ws)
 phrase_of kind.LogicalIf ws = option_map (λ p. guards p.0 p.1) (read_logical ws)

@@ -4,14 +4,14 @@ use Rattle.std.specs.List.{list_any}
 use Rattle.adj_tree.specs.Code.{plain, Term, Terms, lit, none, Mark, Act, assign, Extent, fixed, given}
 use Rattle.def_text.specs.Char.{number_of}
 use Rattle.def_text.specs.Condition.{Condition, test}
-use Rattle.def_text.specs.Form.{Form, integers, simple, logical, opens_do, opens_while, opens_if, otherwise_if}
+use Rattle.def_text.specs.Form.{Form, integers, common, simple, logical, opens_do, opens_while, opens_if, otherwise_if}
 use Rattle.def_text.specs.Grammar.{Syntax, Arguments, only, beside, with_both, tree, trees_before}
 use Rattle.def_text.specs.Statement.{Item, called, Range}
 use Rattle.def_text.specs.Lexeme.{Lexeme}
 use Rattle.def_text.specs.declared.stated.Kind.{Kind}
 use Rattle.adj_parse_expression.specs.Judged.{has_large, any_large, depth, judged_by, test_large, test_depth}
 use Rattle.adj_parse_expression.specs.declared.flaw.Flaw.{Flaw}
-use Rattle.adj_parse_statement.specs.Phrase.{Deed, assigns, calls, Size, numbered, named, Declared, Bounds, Phrase, plainly, declares, does, guards, repeats, goes_while, opens, turns}
+use Rattle.adj_parse_statement.specs.Phrase.{Deed, assigns, calls, Size, numbered, named, Declared, Bounds, Phrase, plainly, declares, shares, does, guards, repeats, goes_while, opens, turns}
 use Rattle.adj_parse_statement.specs.Phrases.{phrase_of}
 
 -- whether a literal of the expressions of a list, of a deed, of an item, of bounds or of a phrase is above the greatest word
@@ -40,6 +40,7 @@ bounds_large b = (has_large b.from || has_large b.to) || step_large b.by
 abbrev pub phrase_large : Phrase → Bool
 phrase_large (plainly f) = false
 phrase_large (declares is) = list_any item_large is
+phrase_large (shares b is) = list_any item_large is
 phrase_large (does d) = deed_large d
 phrase_large (guards c d) = test_large c || deed_large d
 phrase_large (repeats label b) = bounds_large b
@@ -73,6 +74,7 @@ test_deep limit c = nat_lt limit (test_depth c)
 abbrev pub phrase_deep : ℕ → Phrase → Bool
 phrase_deep limit (plainly f) = false
 phrase_deep limit (declares is) = false
+phrase_deep limit (shares b is) = false
 phrase_deep limit (does d) = deed_deep limit d
 phrase_deep limit (guards c d) = test_deep limit c || deed_deep limit d
 phrase_deep limit (repeats label b) = bounds_deep limit b
@@ -110,6 +112,7 @@ range b =
 abbrev pub form : Mark → Phrase → Option Form
 form mark (plainly f) = Some f
 form mark (declares is) = Some (integers (map item is))
+form mark (shares b is) = Some (common b (map item is))
 form mark (does d) = option_map simple (act d)
 form mark (guards c d) = with_both (λ t a. Some (logical t a)) (test c) (act d)
 form mark (repeats label b) = option_map (λ r. opens_do (option_map number_of label) r mark) (range b)

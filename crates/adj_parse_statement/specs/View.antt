@@ -6,13 +6,13 @@ use Rattle.adj_tree.specs.View.{term_of, terms_of, test_of, act_of, extent_of}
 use Rattle.adj_tree.specs.declared.expr.Place.{Place}
 use Rattle.def_text.specs.Char.{number_of}
 use Rattle.def_text.specs.Statement as statement
-use Rattle.def_text.specs.Form.{Form, subroutine, implicit_none, integers, simple, logical, opens_do, opens_while, end_do, go_on, opens_if, otherwise, otherwise_if, end_if, leaves, ends}
+use Rattle.def_text.specs.Form.{Form, subroutine, implicit_none, integers, common, simple, logical, opens_do, opens_while, end_do, go_on, opens_if, otherwise, otherwise_if, end_if, leaves, ends}
 use Rattle.adj_parse_statement.specs.declared.label.Label.{Label}
 use Rattle.adj_parse_statement.specs.declared.label.Label.TheVariants.{Short, Long}
 use Rattle.adj_parse_statement.specs.declared.content.Item.{Item}
 use Rattle.adj_parse_statement.specs.declared.content.Range.{Range}
 use Rattle.adj_parse_statement.specs.declared.content.Said.{Said}
-use Rattle.adj_parse_statement.specs.declared.content.Said.TheVariants.{Subroutine, ImplicitNone, Integers, Simple, Guarded, Do, While, EndDo, Continue, If, Else, ElseIf, EndIf, Return, End}
+use Rattle.adj_parse_statement.specs.declared.content.Said.TheVariants.{Subroutine, ImplicitNone, Integers, Common, Simple, Guarded, Do, While, EndDo, Continue, If, Else, ElseIf, EndIf, Return, End}
 
 -- the number that a label is
 abbrev pub label_of : Label → ℕ
@@ -29,6 +29,10 @@ item_of i = record { name = i.name; extents = map extent_of i.extents }
 abbrev pub range_of : Range → statement.Range
 range_of r = record { counter = plain r.counter; from = term_of r.from.value; to = term_of r.to.value; by = term_of r.by.value }
 
+-- a block with its items
+abbrev pub InBlock : Type 0
+InBlock = List ℕ × List statement.Item
+
 -- a label with a range
 abbrev pub loop_seen : Option Label × Range → Option ℕ × statement.Range
 loop_seen p = (option_map label_of p.0, range_of p.1)
@@ -38,6 +42,7 @@ abbrev pub form_of : code.Mark → Said → Form
 form_of mark (Subroutine x dummies) = subroutine x dummies
 form_of mark ImplicitNone = implicit_none
 form_of mark (Integers is) = integers (map item_of is.items)
+form_of mark (Common b is) = common b (map item_of is.items)
 form_of mark (Simple a) = simple (act_of a)
 form_of mark (Guarded c a) = logical (test_of c) (act_of a)
 form_of mark (Do l r) = opens_do (option_map label_of l) (range_of r) mark

@@ -26,6 +26,8 @@ pub enum Said {
     Subroutine(Name, NameList),
     ImplicitNone,
     Integers(Vec<Item>),
+    /// The block of a COMMON statement and its items, whose extents are literals.
+    Common(Name, Vec<Item>),
     /// An assignment or a CALL.
     Simple(Act),
     /// A logical IF with its assignment or CALL.

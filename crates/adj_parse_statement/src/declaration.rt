@@ -4,10 +4,10 @@ ghost use Rattle.std.specs.Prelude.{◌≡◌, map, IfOk, option_map};
 ghost use Rattle.adj_tree.specs.View.{extent_of};
 ghost use Rattle.adj_parse_expression.specs.View.{seen};
 ghost use Rattle.adj_parse_statement.specs.Flaws.{with_part};
-ghost use Rattle.adj_parse_statement.specs.Fronts.{judged_size, judged_items, front_size, front_sizes, front_extents, front_item, front_list};
+ghost use Rattle.adj_parse_statement.specs.Fronts.{judged_size, judged_items, judged_common, front_size, front_sizes, front_extents, front_item, front_list};
 ghost use Rattle.adj_parse_statement.specs.Phrase.{numbered};
-ghost use Rattle.adj_parse_statement.specs.Phrases.{read_items};
-ghost use Rattle.adj_parse_statement.specs.View.{item_of};
+ghost use Rattle.adj_parse_statement.specs.Phrases.{read_items, block_at, read_common};
+ghost use Rattle.adj_parse_statement.specs.View.{item_of, InBlock};
 ghost use Rattle.adj_parse_statement.specs.LexemesView.{lexemes_in};
 
 use crate::content::Item;
@@ -165,4 +165,51 @@ pub(crate) fn items(
         Some((items, rest)) => Ok(rest.ended(items)),
         None => Ok(None),
     }
+}
+
+// The name of a block between slashes, and what stands behind it.
+fn block(alloc: Global, lexemes: Lexemes) -> Result<Option<(Name, Lexemes)>, Memory>
+    ensures { IfOk result (λ found. option_map (λ f. (f.0, lexemes_in f.1)) found ≡ block_at (lexemes_in lexemes.entry)) }
+{
+    let Some(lexemes) = lexemes.behind(TokenKind::Slash) else {
+        return Ok(None);
+    };
+    let Some((name, rest)) = lexemes.name(alloc)? else {
+        return Ok(None);
+    };
+    match rest.behind(TokenKind::Slash) {
+        Some(rest) => Ok(Some((name, rest))),
+        None => Ok(None),
+    }
+}
+
+// A block with its items.
+fn sharing(
+    block: Name,
+    items: Option<Result<Vec<Item>, Flaw>>,
+) -> Option<Result<(Name, Vec<Item>), Flaw>>
+    ensures { option_map (seen {B = InBlock} (λ p. (p.0, map item_of p.1.items))) result ≡ option_map (seen {B = InBlock} (λ is. (block, is))) (option_map (seen (λ v. map item_of v.items)) items) }
+{
+    match items {
+        Some(Ok(items)) => Some(Ok((block, items))),
+        Some(Err(flaw)) => Some(Err(flaw)),
+        None => None,
+    }
+}
+
+/// The block and the items of the lexemes behind COMMON, or what is wrong with the items. Their extents are literals.
+#[tactic(auto, using(crate::proofs::Sharing::judged_common_on))]
+pub(crate) fn shared(
+    alloc: Global,
+    lexemes: Lexemes,
+) -> Result<Option<Result<(Name, Vec<Item>), Flaw>>, Memory>
+    ensures { IfOk result (λ found. option_map (seen {B = InBlock} (λ p. (p.0, map item_of p.1.items))) found ≡ option_map judged_common (read_common (lexemes_in lexemes.entry))) }
+{
+    let Some((block, rest)) = block(alloc, lexemes)? else {
+        return Ok(None);
+    };
+    if rest.have_inner_name() {
+        return Ok(None);
+    }
+    Ok(sharing(block, items(alloc, rest)?))
 }

@@ -1,14 +1,47 @@
 //! The tokens of a statement that are still to be read.
 
-ghost use Rattle.std.specs.Prelude.{◌≡◌, ◌<◌, IfOk, option_map};
+ghost use Rattle.std.specs.Prelude.{◌≡◌, ◌<◌, false, map, IfOk, option_map};
 ghost use Rattle.adj_tree.specs.View.{term_of, test_of};
 ghost use Rattle.adj_parse_expression.specs.Front.{AreSlices};
 ghost use Rattle.adj_parse_expression.specs.View.{seen};
+ghost use Rattle.adj_parse_statement.specs.Phrases.{inside_behind, is_inner_name, has_inner_name};
 
 use adj_parse_expression::{Flaw, condition, expression};
 use adj_tree::{Cond, Expr, Memory, Name};
 use def_text::{Token, TokenKind};
 use std::alloc::Global;
+
+// Whether what stands behind a token of this kind stands in parentheses.
+fn inside_behind(inside: bool, kind: TokenKind) -> bool
+    ensures { result ≡ inside_behind inside kind }
+{
+    match kind {
+        TokenKind::Left => true,
+        TokenKind::Right => false,
+        _ => inside,
+    }
+}
+
+// Whether a token of this kind is a name in parentheses.
+fn is_inner_name(inside: bool, kind: TokenKind) -> bool
+    ensures { result ≡ is_inner_name inside kind }
+{
+    inside && kind == TokenKind::Name
+}
+
+// Whether a name among some tokens stands in parentheses.
+fn has_inner_name(tokens: &[Token]) -> bool
+    ensures { result ≡ has_inner_name false (map (λ t. t.kind) tokens.now) }
+{
+    let mut inside = false;
+    for token in tokens {
+        if is_inner_name(inside, token.kind) {
+            return true;
+        }
+        inside = inside_behind(inside, token.kind);
+    }
+    false
+}
 
 /// Tokens of a text.
 #[derive(Clone, Copy)]
@@ -21,7 +54,7 @@ pub(crate) struct Lexemes<'t> {
 impl<'t> Lexemes<'t> {
     ghost use Rattle.def_text.specs.Lexeme.{lexemes_of};
     ghost use Rattle.adj_parse_expression.specs.Front.{front_expression, front_condition};
-    ghost use Rattle.adj_parse_statement.specs.Phrases.{are_none, ended, name_at, digits_at, behind};
+    ghost use Rattle.adj_parse_statement.specs.Phrases.{are_none, ended, name_at, digits_at, behind, have_inner_name};
     ghost use Rattle.adj_parse_statement.specs.LexemesView.{lexemes_in};
 
     /// Tokens of a text.
@@ -57,6 +90,14 @@ impl<'t> Lexemes<'t> {
             [first, rest @ ..] if first.kind == kind => Some(Lexemes::new(self.text, rest)),
             _ => None,
         }
+    }
+
+    /// Whether a name stands in parentheses.
+    #[tactic(auto, using(crate::proofs::Inner::inner_names_stay))]
+    pub fn have_inner_name(self) -> bool
+        ensures { result ≡ have_inner_name (lexemes_in self.entry) }
+    {
+        has_inner_name(self.tokens)
     }
 
     /// The name at the front, and what stands behind it.

@@ -12,10 +12,10 @@ ghost use Rattle.adj_parse_statement.specs.Said.{said};
 ghost use Rattle.adj_parse_statement.specs.View.{label_of, range_of, loop_seen, form_of};
 ghost use Rattle.adj_parse_statement.specs.LexemesView.{lexemes_in};
 ghost use Rattle.adj_parse_statement.specs.Phrases.{ended};
-ghost use Rattle.adj_parse_statement.specs.declared.content.Said.TheVariants.{Subroutine, Integers, Simple, Guarded, Do, While, If, ElseIf};
+ghost use Rattle.adj_parse_statement.specs.declared.content.Said.TheVariants.{Subroutine, Integers, Common, Simple, Guarded, Do, While, If, ElseIf};
 
 use crate::content::{Item, Range, Said};
-use crate::declaration::items;
+use crate::declaration::{items, shared};
 use crate::deed::{assignment, call};
 use crate::heading::head;
 use crate::label::Label;
@@ -231,6 +231,17 @@ fn integers(found: Option<Result<Vec<Item>, Flaw>>) -> Option<Result<Said, Flaw>
     }
 }
 
+// A COMMON statement.
+fn in_block(found: Option<Result<(Name, Vec<Item>), Flaw>>) -> Option<Result<Said, Flaw>>
+    ensures { result ≡ option_map (seen (λ p. Common p.0 p.1)) found }
+{
+    match found {
+        Some(Ok((block, items))) => Some(Ok(Said::Common(block, items))),
+        Some(Err(flaw)) => Some(Err(flaw)),
+        None => None,
+    }
+}
+
 // An assignment or a CALL.
 fn simple(found: Option<Result<Act, Flaw>>) -> Option<Result<Said, Flaw>>
     ensures { result ≡ option_map (seen Simple) found }
@@ -320,6 +331,7 @@ pub fn said(
     match stated.kind {
         Kind::Subroutine => Ok(heading(head(alloc, lexemes)?)),
         Kind::Integer => Ok(integers(items(alloc, lexemes)?)),
+        Kind::Common => Ok(in_block(shared(alloc, lexemes)?)),
         Kind::Assign => Ok(simple(assignment(alloc, lexemes, limit)?)),
         Kind::Call => Ok(simple(call(alloc, lexemes, limit)?)),
         Kind::LogicalIf => Ok(guards(logical(alloc, lexemes, limit)?)),

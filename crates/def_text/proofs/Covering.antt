@@ -13,7 +13,7 @@ use Rattle.def_text.specs.Refused.{◌>>=◌, Gives}
 use Rattle.def_text.specs.Stated.{keyword_len, ending_len, place_for, call_place, tokens_of, is_too_long, is_marked_long, with_tokens, with_class, stated, all_stated, IsCovered}
 use Rattle.def_text.specs.Lexeme.{part}
 use Rattle.def_text.specs.declared.stated.Kind.{Kind}
-use Rattle.def_text.specs.declared.stated.Kind.TheVariants.{Do, BlockIf, LogicalIf, Assign, Continue, Return, End, EndIf, EndDo, Else, ImplicitNone, ElseIf, DoWhile, Subroutine, Integer, Call}
+use Rattle.def_text.specs.declared.stated.Kind.TheVariants.{Do, BlockIf, LogicalIf, Assign, Continue, Return, End, EndIf, EndDo, Else, ImplicitNone, ElseIf, DoWhile, Subroutine, Integer, Call, Common}
 use Rattle.def_text.specs.Char.{is_capital, is_digit, is_name_char, dot, star}
 use Rattle.def_text.specs.Token.{begins_with, dotted, mark_of, stars, first_token, token_here, token_at, tokens_from, AreJoined}
 use Rattle.def_text.specs.declared.token.Token.{Token}
@@ -22,7 +22,7 @@ use Rattle.def_text.specs.declared.token.TokenKind.TheVariants.{Power, Star, Lt,
 use Rattle.def_text.proofs.Fitting.{begins_fits, if_some, kind_fits}
 
 -- a token's length: a character at least, and no more than there are
-abbrev IsWithin : List ℕ → TokenKind × ℕ → Type 0
+abbrev pub IsWithin : List ℕ → TokenKind × ℕ → Type 0
 IsWithin text t = (0 < t.1) × (t.1 ≤ length text)
 
 prefix_step : (b : Bool) (n m : ℕ) → n ≤ m → cond b (1 + n) 0 ≤ m + 1
@@ -55,7 +55,7 @@ mark_within : (c : ℕ) (cs : List ℕ) (k : Option TokenKind) → IfSome (optio
 mark_within c cs None = tt
 mark_within c cs (Some k) = (omega arith, omega arith)
 
-first_within : (text : List ℕ) → IfSome (first_token text) (IsWithin text)
+pub first_within : (text : List ℕ) → IfSome (first_token text) (IsWithin text)
 first_within [] = tt
 first_within (c ∷ cs) =
     if_some (IsWithin (c ∷ cs)) (is_capital c) _ _ (λ _. (omega arith, omega (arith, prefix_within is_name_char cs))) (λ _.
@@ -122,6 +122,7 @@ place_within text (Some ElseIf) end fits = tt
 place_within text (Some DoWhile) end fits = tt
 place_within text (Some Subroutine) end fits = tt
 place_within text (Some Integer) end fits = tt
+place_within text (Some Common) end fits = tt
 
 call_within : (text : List ℕ) (kind : Kind) → HasRoom (call_place kind text) (length text - ending_len kind)
 call_within text LogicalIf =

@@ -100,7 +100,8 @@ begun_fits text =
     if_some (Fits text) (begins_with text (codes "DOWHILE(") && is_group (drop 7 text)) _ _ (λ h. omega (arith, begins_fits text (codes "DOWHILE(") (and_first _ _ h))) (λ _.
     if_some (Fits text) (begins_with text (codes "SUBROUTINE")) _ _ (λ h. omega (arith, begins_fits text (codes "SUBROUTINE") h)) (λ _.
     if_some (Fits text) (begins_with text (codes "INTEGER")) _ _ (λ h. if_some (Fits text) (is_integer text) _ _ (λ _. width_fits text (begins_with (drop 7 text) (star ∷ [])) (begins_fits text (codes "INTEGER") h)) (λ _. tt)) (λ _.
-    if_some (Fits text) (begins_with text (codes "CALL")) _ _ (λ h. omega (arith, begins_fits text (codes "CALL") h)) (λ _. tt)))))
+    if_some (Fits text) (begins_with text (codes "CALL")) _ _ (λ h. omega (arith, begins_fits text (codes "CALL") h)) (λ _.
+    if_some (Fits text) (begins_with text (codes "COMMON/")) _ _ (λ h. omega (arith, begins_fits text (codes "COMMON/") h)) (λ _. tt))))))
 
 pub or_fits : (P : Kind → Type 0) (x y : Option Kind) → IfSome x P → IfSome y P → IfSome (option_or x y) P
 or_fits P None y first second = second

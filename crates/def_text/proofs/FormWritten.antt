@@ -5,7 +5,7 @@ use Rattle.adj_tree.specs.Code.{Var, plain, Terms, none, more, Test, compare, ne
 use Rattle.def_text.specs.Condition.{Condition, Part, DerivesCondition, comparison, group, plain as bare, not, item, and, whole, or, test, ReadsTest}
 use Rattle.def_text.specs.Grammar.{tree}
 use Rattle.def_text.specs.Statement as statements
-use Rattle.def_text.specs.Statement.{ReadsPlace, ReadsAssignment, ReadsNames, ReadsHead, Item, ReadsExtent, ReadsItem, ReadsItems, as_place, as_name, as_value, as_beginning, as_count, as_action, as_nothing, runtime_call, called, called_as, ReadsCall, Range, ReadsRange, ReadsDo, ReadsGuard, ReadsGuarded}
+use Rattle.def_text.specs.Statement.{ReadsPlace, ReadsAssignment, ReadsNames, ReadsHead, Item, ReadsExtent, ReadsItem, ReadsItems, ReadsCommon, as_place, as_name, as_value, as_beginning, as_count, as_action, as_nothing, runtime_call, called, called_as, ReadsCall, Range, ReadsRange, ReadsDo, ReadsGuard, ReadsGuarded}
 use Rattle.def_text.specs.declared.token.TokenKind.TheVariants.{Right, Comma}
 use Rattle.def_text.specs.Lexeme.{Lexeme, Mark}
 use Rattle.def_text.specs.Written.{IsName, IsVariable, IsPlace, AreSubscripts, AreWrittenTerms, IsWrittenTest, IsWrittenAct, IsWrittenExtent}
@@ -113,6 +113,9 @@ AreWrittenItems (i ∷ is) = IsWrittenItem i × AreWrittenItems is
 pub items_written : {ts : List Lexeme} {is : List Item} → ReadsItems ts is → AreLexemes ts → AreWrittenItems is
 items_written (statements.ReadsItems.last d) h = ((item_written d h).1, tt)
 items_written (statements.ReadsItems.another d e) h = let r = item_written d h in (r.1, items_written e r.0)
+
+pub common_written : {ts : List Lexeme} {b : List ℕ} {is : List Item} → ReadsCommon ts b is → AreLexemes ts → IsName b × AreWrittenItems is
+common_written (statements.ReadsCommon.block d e) h = (h.0, items_written d h.1)
 
 -- a range
 pub record IsWrittenRange (r : Range) : Type 0 where

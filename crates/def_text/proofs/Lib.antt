@@ -48,4 +48,6 @@ pub mod Sound
 pub mod Unique
 pub mod TokensNamed
 pub mod LinesMarked
+pub mod Forming
+pub mod Cut
 pub mod ReadingWritten

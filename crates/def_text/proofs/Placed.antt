@@ -2,6 +2,7 @@
 use Rattle.std.proofs.Common.{◌≡◌, ℕ, Bool, true, false, List, [], ◌∷◌, map, None, refl, sym, subst}
 use Rattle.adj_tree.specs.Code.{Act, Code, assign, choose, loop, during, call, runtime, stop, step, Declaration, Procedure}
 use Rattle.adj_tree.specs.Lines.{unlined_act, unlined_code, unlined_declaration, unlined_procedure, unlined}
+use Rattle.adj_tree.specs.Common.{without_commons}
 use Rattle.def_text.specs.Block as blocks
 use Rattle.def_text.specs.Block.{ReadsBody, ReadsAct, ReadsElse}
 use Rattle.def_text.specs.Form.{Form, subroutine, implicit_none, integers, simple, opens_do, opens_while, end_do, opens_if, otherwise, end_if, ends, Statement, at}
@@ -135,7 +136,7 @@ mutual
 record DeclarationsBack (ts : List Statement) (ds : List Declaration) (fs : List Form) : Type 0 where
   rest : List Statement
   found : List Declaration
-  reads : ReadsDeclarations ts rest found
+  reads : ReadsDeclarations ts rest found []
   same : map unlined_declaration found ≡ map unlined_declaration ds
   left : AreAt rest fs
 
@@ -145,7 +146,7 @@ declarations_back (d ∷ ds) fs ts h =
     let q = first_at h in
     let r = declarations_back ds fs q.others q.left in
     let found = record { line = q.line; name = d.name; extents = d.extents } ∷ r.found in
-    let P : List Statement → Type 0 = λ ts. ReadsDeclarations ts r.rest found in
+    let P : List Statement → Type 0 = λ ts. ReadsDeclarations ts r.rest found [] in
     record { rest = r.rest; found = found; reads = subst P (sym q.are) (units.ReadsDeclarations.more r.reads refl); same = rw (r.same) refl; left = r.left }
 
 record ImplicitBack (ts : List Statement) (is_none : Bool) (fs : List Form) : Type 0 where
@@ -163,7 +164,7 @@ implicit_back false fs ts h = record { rest = ts; reads = units.ReadsImplicit.ab
 record UnitBack (ts : List Statement) (p : Procedure) (fs : List Form) : Type 0 where
   rest : List Statement
   found : Procedure
-  reads : ReadsUnit ts rest found
+  reads : ReadsUnit ts rest (without_commons found)
   same : unlined_procedure found ≡ unlined_procedure p
   left : AreAt rest fs
 
@@ -176,14 +177,14 @@ unit_back p fs ts h =
     let e = first_at b.left in
     let found : Procedure = record { line = q.line; name = p.name; dummies = p.dummies; is_none = p.is_none; declarations = d.found; body = b.body } in
     let P : List Statement → Type 0 = λ rest. ReadsBody [] d.rest rest b.body in
-    let Q : List Statement → Type 0 = λ ts. ReadsUnit ts e.others found in
+    let Q : List Statement → Type 0 = λ ts. ReadsUnit ts e.others (without_commons found) in
     record { rest = e.others; found = found; reads = subst Q (sym q.are) (units.ReadsUnit.unit i.reads d.reads (subst P e.are b.reads) units.ReadsEnd.ended); same = rw (d.same, b.same) refl; left = e.left }
 
 no_statements : {ts : List Statement} → AreAt ts [] → ts ≡ []
 no_statements printed.AreAt.none = refl
 
 -- a program is found in its statements
-pub program_back : (ps : List Procedure) (ts : List Statement) → AreAt ts (program_forms ps) → (qs : List Procedure) × ReadsUnits ts qs × (unlined qs ≡ unlined ps)
+pub program_back : (ps : List Procedure) (ts : List Statement) → AreAt ts (program_forms ps) → (qs : List Procedure) × ReadsUnits ts (map without_commons qs) × (unlined qs ≡ unlined ps)
 program_back [] ts h = let P : List Statement → Type 0 = λ ts. ReadsUnits ts [] in ([], subst P (sym (no_statements h)) units.ReadsUnits.none, refl)
 program_back (p ∷ ps) ts h =
     let u = unit_back p (program_forms ps) ts h in

@@ -1,13 +1,14 @@
 -- Printed: statements that are printed one after another are read one after another.
 use Rattle.std.proofs.Common.{◌≡◌, ℕ, false, List, [], ◌∷◌, ◌++◌, None, Ok, refl, sym, ap, ◌∙◌, append_assoc, append-nil}
-use Rattle.adj_tree.specs.Code.{Mark, unmarked, Procedure}
+use Rattle.adj_tree.specs.Code.{Mark, unmarked}
 use Rattle.adj_tree.specs.View.{mark_of}
+use Rattle.adj_tree.specs.Common.{Shared}
 use Rattle.def_text.specs.Char.{is_blank, folded}
 use Rattle.def_text.specs.Form.{Form, Statement, at}
 use Rattle.def_text.specs.Limits.{no_limits}
 use Rattle.def_text.specs.Line.{cut_lines, next_number}
 use Rattle.def_text.specs.Lined.{Lines, Pass, flushed, directive_before, start, pass_over}
-use Rattle.def_text.specs.Reads.{Reads}
+use Rattle.def_text.specs.Reads.{ReadsShared}
 use Rattle.def_text.specs.Text.{directive, statement}
 use Rattle.def_text.specs.Unit.{ReadsUnits}
 use Rattle.def_text.proofs.Directives.{behind, HasLine, over_directive}
@@ -93,7 +94,7 @@ read_on (marked {chars = chars} {cs = cs} {f = f} {fs = fs} {m = mark} w s rest)
     }
 
 -- what is printed reads as the units of its statements, at whatever lines these stand
-pub printed_reads : (cs : List ℕ) (fs : List Form) → Printed cs fs → (ts : List Statement) × AreAt ts fs × ((ps : List Procedure) → ReadsUnits ts ps → Reads cs ps)
+pub printed_reads : (cs : List ℕ) (fs : List Form) → Printed cs fs → (ts : List Statement) × AreAt ts fs × ((ps : List Shared) → ReadsUnits ts ps → ReadsShared cs ps)
 printed_reads cs fs h =
     let r = read_on h start 1 refl in
     (r.statements, r.at_forms, λ ps units. reads_said cs r.lines r.statements ps r.passed r.say units)

@@ -1,30 +1,34 @@
 -- ReadingWritten: what a text reads as is written, where its literals and extents are words.
-use Rattle.std.proofs.Common.{◌≡◌, ℕ, zero, suc, ◌-◌, Bool, true, false, eqb, List, [], ◌∷◌, ◌++◌, length, take, drop, Option, Some, None, Result, Ok, Err, refl, sym, ap, subst, ◌∙◌, arith, inl, inr}
+use Rattle.std.proofs.Common.{◌≡◌, ℕ, zero, suc, ◌-◌, Bool, true, false, eqb, List, [], ◌∷◌, ◌++◌, length, take, drop, Option, Some, None, Result, Ok, Err, map, refl, sym, ap, subst, ◌∙◌, arith, inl, inr}
 use Rattle.std.specs.Prelude.{◌||◌, if◌then◌else◌}
-use Rattle.std.specs.List.{list_any}
+use Rattle.std.specs.List.{All, list_any}
 use Rattle.std.proofs.lemmas.Bool.{cases_lt}
 use Rattle.std.proofs.lemmas.List.{take-append-drop, length-take-le, drop_all}
 use Rattle.adj_tree.specs.Code.{Procedure}
 use Rattle.adj_tree.specs.declared.fault.Refusal.{Refusal}
 use Rattle.adj_tree.specs.View.{mark_of}
 use Rattle.adj_tree.specs.declared.stmt.Mark.{Mark}
+use Rattle.adj_tree.specs.Common.{Common, Shared, without_commons}
 use Rattle.def_text.specs.Class.{class_of, is_matched}
 use Rattle.def_text.specs.Form.{Statement}
 use Rattle.def_text.specs.Limits.{no_limits}
 use Rattle.def_text.specs.Lined.{Lines, lines_of}
 use Rattle.def_text.specs.Reads as texts
-use Rattle.def_text.specs.Reads.{ReadsAll, Reads}
+use Rattle.def_text.specs.Reads.{ReadsAll, ReadsShared, Reads}
 use Rattle.def_text.specs.Refused.{◌>>=◌}
 use Rattle.def_text.specs.Stated.{keyword_len, ending_len, call_place, tokens_of, is_too_long, is_marked_long, with_tokens, with_class, stated, all_stated}
 use Rattle.def_text.specs.Token.{tokens_from}
 use Rattle.def_text.specs.Lexeme.{lexemes_of}
-use Rattle.def_text.specs.Written.{IsWrittenMark, IsWritten}
-use Rattle.def_text.specs.Fits.{Fits}
+use Rattle.def_text.specs.Written.{IsWrittenMark, IsWrittenProcedure, IsWritten, IsWrittenShared, AreWritten}
+use Rattle.def_text.specs.Fits.{FitsProcedure, Fits, FitsCommon, FitsShared, AllFit}
 use Rattle.def_text.specs.declared.stated.Kind.{Kind}
 use Rattle.def_text.specs.declared.stated.Stated.{Stated}
 use Rattle.def_text.specs.declared.token.Token.{Token}
 use Rattle.def_text.proofs.TermWritten.{AreLexemes}
 use Rattle.def_text.proofs.TokensNamed.{tokens_named}
+use Rattle.def_text.proofs.FormWritten.{all_nil, all_cons}
+use Rattle.def_text.proofs.WrittenBack.{all_first, all_rest}
+use Rattle.def_text.proofs.Cut.{text_forms}
 use Rattle.def_text.proofs.LinesMarked.{AreMarked, bind_ok, lines_marked}
 use Rattle.def_text.proofs.UnitWritten.{AreWrittenForms, form_written, units_written}
 
@@ -107,7 +111,22 @@ forms_written : {ss : List Stated} {ts : List Statement} → ReadsAll ss ts → 
 forms_written texts.ReadsAll.none h = tt
 forms_written (texts.ReadsAll.more d rest) h = (form_written d h.1 h.0, forms_written rest h.2)
 
-pub reading_written : (bytes : List ℕ) (ps : List Procedure) → Reads bytes ps → Fits ps → IsWritten ps
-reading_written bytes ps r f =
-    let a = bind_ok (lines_of no_limits bytes) (all_stated no_limits) r.stated r.lines_form in
+-- with its COMMON statements
+pub shared_reading_written : (bytes : List ℕ) (ss : List Shared) → ReadsShared bytes ss → AllFit ss → AreWritten ss
+shared_reading_written bytes ss r f =
+    let a = bind_ok (lines_of no_limits bytes) (all_stated no_limits) r.stated (text_forms bytes r.stated r.lines_form) in
     units_written r.units_derive (forms_written r.lexemes_derive (all_named a.0 r.stated (lines_marked bytes a.0 a.1) a.2)) f
+
+-- units without COMMON statements
+pub all_fit : (ps : List Procedure) → Fits ps → AllFit (map without_commons ps)
+all_fit [] f = all_nil FitsShared
+all_fit (p ∷ ps) f =
+    all_cons FitsShared (without_commons p) (map without_commons ps) (record { unit = all_first FitsProcedure p ps f; commons = all_nil FitsCommon }) (all_fit ps (all_rest FitsProcedure p ps f))
+
+pub are_written : (ps : List Procedure) → AreWritten (map without_commons ps) → IsWritten ps
+are_written [] w = all_nil IsWrittenProcedure
+are_written (p ∷ ps) w =
+    all_cons IsWrittenProcedure p ps (all_first IsWrittenShared (without_commons p) (map without_commons ps) w).unit (are_written ps (all_rest IsWrittenShared (without_commons p) (map without_commons ps) w))
+
+pub reading_written : (bytes : List ℕ) (ps : List Procedure) → Reads bytes ps → Fits ps → IsWritten ps
+reading_written bytes ps r f = are_written ps (shared_reading_written bytes (map without_commons ps) r (all_fit ps f))

@@ -3,6 +3,7 @@ use Rattle.std.proofs.Common.{ℕ, Bool, true, false, List, [], ◌∷◌, ◌++
 use Rattle.std.specs.Prelude.{codes}
 use Rattle.std.specs.List.{flat_map}
 use Rattle.adj_tree.specs.Code.{plain, shadow, helper, Mark, unmarked, with_count, count_from, Act, Code, assign, choose, loop, during, call, runtime, stop, step, Declaration, Procedure}
+use Rattle.adj_tree.specs.Common.{without_commons}
 use Rattle.def_text.specs.declared.stated.Kind.TheVariants as classes
 use Rattle.def_text.specs.Char.{comma, equals}
 use Rattle.def_text.specs.Form.{Form, subroutine, implicit_none, integers, simple, opens_do, opens_while, end_do, opens_if, otherwise, end_if, ends, ReadsForm}
@@ -138,4 +139,4 @@ pub reads_back : (ps : List Procedure) → SaidProgram ps → ReadsAs (text_of p
 reads_back ps h =
     let r = printed_reads (text_of ps) (program_forms ps) (printed_program ps h) in
     let b = program_back ps r.0 r.1 in
-    (b.0, r.2 b.0 b.1, b.2)
+    (b.0, r.2 (map without_commons b.0) b.1, b.2)

@@ -1,6 +1,6 @@
 -- Said: a text reads as the units of what its statements say.
 use Rattle.std.proofs.Common.{◌≡◌, ℕ, List, [], ◌∷◌, Ok, refl, sym, ap, subst, ◌∙◌}
-use Rattle.adj_tree.specs.Code.{Procedure}
+use Rattle.adj_tree.specs.Common.{Shared}
 use Rattle.adj_tree.specs.View.{mark_of}
 use Rattle.def_text.specs.declared.stated.Kind.{Kind}
 use Rattle.def_text.specs.declared.stated.Stated.{Stated}
@@ -8,11 +8,12 @@ use Rattle.def_text.specs.Form.{Form, Statement, at, ReadsForm}
 use Rattle.def_text.specs.Limits.{no_limits}
 use Rattle.def_text.specs.Lined.{Lines, lines_of}
 use Rattle.def_text.specs.Reads as texts
-use Rattle.def_text.specs.Reads.{ReadsAll, Reads}
+use Rattle.def_text.specs.Reads.{ReadsAll, ReadsShared}
 use Rattle.def_text.specs.Refused.{◌>>=◌}
 use Rattle.def_text.specs.Stated.{stated, all_stated}
 use Rattle.def_text.specs.Unit.{ReadsUnits}
 use Rattle.def_text.specs.Lexeme.{Lexeme, lexemes_of}
+use Rattle.def_text.proofs.Cut.{forms_text}
 use Rattle.def_text.proofs.Stating.{text_of, IsStatement, statement_of, states, lexemes_stand}
 
 -- the lines of a statement that says this form
@@ -57,13 +58,13 @@ all_say (more {s = s} {ss = ss} {f = f} {ts = ts} h rest) =
     let Q : ℕ → Type 0 = λ l. ReadsAll (h.found ∷ r.0) (at s.line l f ∷ ts) in
     (h.found ∷ r.0, one_stated s ss h.found r.0 h.is_stated r.1, subst Q h.with_label (subst P h.at_line (texts.ReadsAll.more h.form r.2)))
 
-pub reads_said : (bytes : List ℕ) (ls : List Lines) (ts : List Statement) (ps : List Procedure) → lines_of no_limits bytes ≡ Ok ls → AllSay ls ts → ReadsUnits ts ps → Reads bytes ps
+pub reads_said : (bytes : List ℕ) (ls : List Lines) (ts : List Statement) (ps : List Shared) → lines_of no_limits bytes ≡ Ok ls → AllSay ls ts → ReadsUnits ts ps → ReadsShared bytes ps
 reads_said bytes ls ts ps h say units =
     let r = all_say say in
     record {
       stated = r.0;
       statements = ts;
-      lines_form = ap (λ found. found >>= all_stated no_limits) h ∙ r.1;
+      lines_form = forms_text bytes r.0 (ap (λ found. found >>= all_stated no_limits) h ∙ r.1);
       lexemes_derive = r.2;
       units_derive = units;
     }

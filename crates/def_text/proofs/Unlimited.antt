@@ -16,7 +16,7 @@ use Rattle.def_text.specs.declared.stated.Kind.{Kind}
 use Rattle.def_text.specs.declared.token.Token.{Token}
 
 -- a statement so far, with room for any number of lines
-abbrev freed : Lines → Lines
+abbrev pub freed : Lines → Lines
 freed s = record { line = s.line; label = s.label; mark = s.mark; mark_line = s.mark_line; text = s.text; room = None }
 
 -- the same of all that is read so far
@@ -94,7 +94,7 @@ pass_follows limits p n (l ∷ ls) =
     follows_both (map freed) (is_data (without_cr l)) _ _ _ _ (ended_follows p p.pending)
     (follows_then freed_pass (map freed) _ _ _ _ (line_follows limits p n (without_cr l)) (λ q. pass_follows limits q (next_number n) ls))
 
-none_too_long : (tokens : List Token) → list_any (is_too_long None) tokens ≡ false
+pub none_too_long : (tokens : List Token) → list_any (is_too_long None) tokens ≡ false
 none_too_long [] = refl
 none_too_long (t ∷ ts) = none_too_long ts
 
@@ -110,7 +110,7 @@ stated_follows : (limits : Limits) (s : Lines) → Follows (λ x. x) (stated lim
 unfolding stated
 stated_follows limits s = follows_both (λ x. x) (eqb (length s.text) 0) _ _ _ _ tt (class_follows limits s (class_of s.text))
 
-all_follow : (limits : Limits) (ss : List Lines) → Follows (λ xs. xs) (all_stated limits ss) (all_stated no_limits (map freed ss))
+pub all_follow : (limits : Limits) (ss : List Lines) → Follows (λ xs. xs) (all_stated limits ss) (all_stated no_limits (map freed ss))
 unfolding all_stated
 all_follow limits [] = refl
 all_follow limits (s ∷ ss) =
@@ -120,3 +120,7 @@ all_follow limits (s ∷ ss) =
 -- the statements of a text within limits are its statements without limits
 pub statements_follow : (limits : Limits) (bytes : List ℕ) → IfOk (statements_of limits bytes) (λ ss. statements_of no_limits bytes ≡ Ok ss)
 statements_follow limits bytes = follows_then (map freed) (λ ss. ss) (lines_of limits bytes) (lines_of no_limits bytes) _ _ (pass_follows limits start 1 (cut_lines bytes)) (λ ls. all_follow limits ls)
+
+-- its lines within limits form the same statements without limits
+pub lines_follow : (limits : Limits) (bytes : List ℕ) → IfOk (lines_of limits bytes) (λ ss. lines_of no_limits bytes ≡ Ok (map freed ss))
+lines_follow limits bytes = pass_follows limits start 1 (cut_lines bytes)

@@ -5,7 +5,7 @@ use Rattle.std.specs.Option.{option_or}
 use Rattle.def_text.specs.Char.{left, right, star, comma, equals, nought, is_capital, is_digit, is_name_char}
 use Rattle.def_text.specs.Token.{begins_with}
 use Rattle.def_text.specs.declared.stated.Kind.{Kind}
-use Rattle.def_text.specs.declared.stated.Kind.TheVariants.{Do, BlockIf, LogicalIf, Assign, Continue, Return, End, EndIf, EndDo, Else, ImplicitNone, ElseIf, DoWhile, Subroutine, Integer, Call}
+use Rattle.def_text.specs.declared.stated.Kind.TheVariants.{Do, BlockIf, LogicalIf, Assign, Continue, Return, End, EndIf, EndDo, Else, ImplicitNone, ElseIf, DoWhile, Subroutine, Integer, Call, Common}
 
 -- how many parentheses are open behind a character, of n before it: never fewer than none
 abbrev pub depth_behind : ℕ → ℕ → ℕ
@@ -94,7 +94,8 @@ begun text =
     else (if begins_with text (codes "SUBROUTINE") then Some Subroutine
     else (if begins_with text (codes "INTEGER") then (if is_integer text then Some Integer else None)
     else (if begins_with text (codes "CALL") then Some Call
-    else None))))
+    else (if begins_with text (codes "COMMON/") then Some Common
+    else None)))))
 
 -- the class of a text: the first that fits, or none where the profile hasn't one
 unfoldable pub kind_of : List ℕ → Option Kind

@@ -2,6 +2,7 @@
 use Rattle.std.specs.Prelude.{List}
 use Rattle.std.specs.List.{All}
 use Rattle.adj_tree.specs.Code.{Term, Terms, lit, var, elem, neg, bin, pow, power_of, abs, none, more, Test, compare, negation, conjunction, disjunction, Runtime, push_word, pop_word, push_control, begin_reversal, count_actions, give_action, Act, Code, assign, choose, loop, during, call, runtime, stop, step, Extent, fixed, given, Declaration, Procedure}
+use Rattle.adj_tree.specs.Common.{Common, Shared}
 use Rattle.def_text.specs.Written.{IsLiteral}
 
 abbrev mutual
@@ -51,10 +52,24 @@ abbrev pub FitsExtent : Extent → Type 0
 FitsExtent (fixed n) = IsLiteral n
 FitsExtent (given x) = Unit {0}
 
+abbrev pub FitsDeclaration : Declaration → Type 0
+FitsDeclaration d = All FitsExtent d.extents
+
 pub record FitsProcedure (p : Procedure) : Type 0 where
-  pub declarations : All (λ (d : Declaration). All FitsExtent d.extents) p.declarations
+  pub declarations : All FitsDeclaration p.declarations
   pub body : FitsCode p.body
 
 -- each unit fits
 abbrev pub Fits : List Procedure → Type 0
 Fits ps = All FitsProcedure ps
+
+abbrev pub FitsCommon : Common → Type 0
+FitsCommon c = All FitsDeclaration c.items
+
+pub record FitsShared (s : Shared) : Type 0 where
+  pub unit : FitsProcedure s.unit
+  pub commons : All FitsCommon s.commons
+
+-- each unit and its COMMON statements fit
+abbrev pub AllFit : List Shared → Type 0
+AllFit ss = All FitsShared ss

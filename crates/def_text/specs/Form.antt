@@ -2,15 +2,16 @@
 use Rattle.std.specs.Prelude.{ℕ, List, [], Option}
 use Rattle.adj_tree.specs.Code.{Test, Mark, unmarked, Act}
 use Rattle.def_text.specs.declared.stated.Kind.{Kind}
-use Rattle.def_text.specs.declared.stated.Kind.TheVariants.{Do, BlockIf, LogicalIf, Assign, Continue, Return, End, EndIf, EndDo, Else, ImplicitNone, ElseIf, DoWhile, Subroutine, Integer, Call}
+use Rattle.def_text.specs.declared.stated.Kind.TheVariants.{Do, BlockIf, LogicalIf, Assign, Continue, Return, End, EndIf, EndDo, Else, ImplicitNone, ElseIf, DoWhile, Subroutine, Integer, Call, Common}
 use Rattle.def_text.specs.Lexeme.{Lexeme}
-use Rattle.def_text.specs.Statement.{Item, Range, ReadsHead, ReadsItems, ReadsAssignment, ReadsCall, ReadsGuard, ReadsGuarded, ReadsDo}
+use Rattle.def_text.specs.Statement.{Item, Range, ReadsHead, ReadsItems, ReadsCommon, ReadsAssignment, ReadsCall, ReadsGuard, ReadsGuarded, ReadsDo}
 
 -- what a statement says; a DO with the label behind it and what the directive before it says
 pub data Form : Type 0 where
   subroutine : List ℕ → List (List ℕ) → Form
   implicit_none : Form
   integers : List Item → Form
+  common : List ℕ → List Item → Form
   simple : Act → Form
   logical : Test → Act → Form
   opens_do : Option ℕ → Range → Mark → Form
@@ -33,6 +34,7 @@ pub data ReadsForm : Mark → Kind → List Lexeme → Form → Type 0 where
   heading : {ts : List Lexeme} {x : List ℕ} {dummies : List (List ℕ)} → ReadsHead ts x dummies → ReadsForm unmarked Subroutine ts (subroutine x dummies)
   implicit : ReadsForm unmarked ImplicitNone [] implicit_none
   declaration : {ts : List Lexeme} {is : List Item} → ReadsItems ts is → ReadsForm unmarked Integer ts (integers is)
+  shared : {ts : List Lexeme} {b : List ℕ} {is : List Item} → ReadsCommon ts b is → ReadsForm unmarked Common ts (common b is)
   assigned : {ts : List Lexeme} {a : Act} → ReadsAssignment ts a → ReadsForm unmarked Assign ts (simple a)
   calls : {ts : List Lexeme} {a : Act} → ReadsCall ts a → ReadsForm unmarked Call ts (simple a)
   guarded : {ts us : List Lexeme} {c : Test} {a : Act} → ReadsGuard ts us c → ReadsGuarded us a → ReadsForm unmarked LogicalIf ts (logical c a)

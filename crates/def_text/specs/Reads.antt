@@ -1,10 +1,10 @@
 -- Reads: what a text reads as.
-use Rattle.std.specs.Prelude.{◌≡◌, ℕ, List, [], ◌∷◌, Ok}
+use Rattle.std.specs.Prelude.{ℕ, List, [], ◌∷◌, map}
 use Rattle.adj_tree.specs.Code.{Procedure}
 use Rattle.adj_tree.specs.View.{mark_of}
-use Rattle.def_text.specs.Limits.{no_limits}
+use Rattle.adj_tree.specs.Common.{Shared, without_commons}
 use Rattle.def_text.specs.Lexeme.{lexemes_of}
-use Rattle.def_text.specs.Stated.{statements_of}
+use Rattle.def_text.specs.Forming.{FormsText}
 use Rattle.def_text.specs.Form.{Form, Statement, at, ReadsForm}
 use Rattle.def_text.specs.Unit.{ReadsUnits}
 use Rattle.def_text.specs.declared.stated.Stated.{Stated}
@@ -14,10 +14,14 @@ pub data ReadsAll : List Stated → List Statement → Type 0 where
   none : ReadsAll [] []
   more : {s : Stated} {ss : List Stated} {f : Form} {ts : List Statement} → ReadsForm (mark_of s.mark) s.kind (lexemes_of s.text s.tokens) f → ReadsAll ss ts → ReadsAll (s ∷ ss) (at s.line s.label f ∷ ts)
 
--- the lines of a text form statements, without any limit, and their lexemes derive the program
-pub record Reads (bytes : List ℕ) (program : List Procedure) : Type 0 where
+-- the lines of a text form statements, without any limit, and their lexemes derive the program with its COMMON statements
+pub record ReadsShared (bytes : List ℕ) (program : List Shared) : Type 0 where
   pub stated : List Stated
   pub statements : List Statement
-  pub lines_form : statements_of no_limits bytes ≡ Ok stated
+  pub lines_form : FormsText bytes stated
   pub lexemes_derive : ReadsAll stated statements
   pub units_derive : ReadsUnits statements program
+
+-- a text that has no COMMON statement reads as a program
+abbrev pub Reads : List ℕ → List Procedure → Type 0
+Reads bytes program = ReadsShared bytes (map without_commons program)

@@ -11,7 +11,7 @@ use Rattle.def_text.specs.Refused.{◌>>=◌, refused}
 use Rattle.def_text.specs.Token.{tokens_from, AreJoined}
 use Rattle.def_text.specs.Lexeme.{part}
 use Rattle.def_text.specs.declared.stated.Kind.{Kind}
-use Rattle.def_text.specs.declared.stated.Kind.TheVariants.{Do, BlockIf, LogicalIf, Assign, Continue, Return, End, EndIf, EndDo, Else, ImplicitNone, ElseIf, DoWhile, Subroutine, Integer, Call}
+use Rattle.def_text.specs.declared.stated.Kind.TheVariants.{Do, BlockIf, LogicalIf, Assign, Continue, Return, End, EndIf, EndDo, Else, ImplicitNone, ElseIf, DoWhile, Subroutine, Integer, Call, Common}
 use Rattle.def_text.specs.declared.stated.Stated.{Stated}
 use Rattle.def_text.specs.declared.token.Token.{Token}
 use Rattle.def_text.specs.declared.token.TokenKind.{TokenKind}
@@ -35,6 +35,7 @@ keyword_len DoWhile text = 7
 keyword_len Subroutine text = 10
 keyword_len Integer text = if length (width_of text) == 0 then 7 else 8 + length (width_of text)
 keyword_len Call text = 4
+keyword_len Common text = 6
 
 -- how many characters its final THEN has
 abbrev pub ending_len : Kind → ℕ

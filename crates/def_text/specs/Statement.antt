@@ -1,7 +1,8 @@
 -- Statement: which lexemes behind its keyword make a statement of each class.
-use Rattle.std.specs.Prelude.{ℕ, ◌≤◌, List, [], ◌∷◌, codes, Option, Some, None, pos, if◌then◌else◌}
+use Rattle.std.specs.Prelude.{◌≡◌, ℕ, ◌≤◌, Bool, true, false, List, [], ◌∷◌, codes, Option, Some, None, pos, if◌then◌else◌}
+use Rattle.std.specs.List.{list_all}
 use Rattle.adj_tree.specs.Code.{Var, plain, Term, lit, var, elem, Terms, none, more, name_eq, Test, Runtime, push_word, pop_word, push_array, pop_array, push_control, pop_control, zero_array, begin_reversal, count_actions, give_action, end_reversal, Act, assign, call, runtime, Extent, fixed, given}
-use Rattle.def_text.specs.declared.token.TokenKind.TheVariants.{Left, Right, Comma, Equals, Call}
+use Rattle.def_text.specs.declared.token.TokenKind.TheVariants.{Slash, Left, Right, Comma, Equals, Call}
 use Rattle.def_text.specs.Char.{number_of}
 use Rattle.def_text.specs.Lexeme.{Lexeme, Named, Digits, Mark}
 use Rattle.def_text.specs.Grammar.{ReadsTerm, ReadsTerms}
@@ -44,6 +45,18 @@ pub data ReadsItem : List Lexeme → List Lexeme → Item → Type 0 where
 pub data ReadsItems : List Lexeme → List Item → Type 0 where
   last : {ts : List Lexeme} {i : Item} → ReadsItem ts [] i → ReadsItems ts (i ∷ [])
   another : {ts us : List Lexeme} {i : Item} {is : List Item} → ReadsItem ts (Mark Comma ∷ us) i → ReadsItems us is → ReadsItems ts (i ∷ is)
+
+abbrev pub is_literal_extent : Extent → Bool
+is_literal_extent (fixed n) = true
+is_literal_extent (given x) = false
+
+-- whether each extent of each item is a literal
+abbrev pub have_literals : List Item → Bool
+have_literals is = list_all (λ i. list_all is_literal_extent i.extents) is
+
+-- behind COMMON: the name of a block between slashes, and items separated by commas, whose extents are literals
+pub data ReadsCommon : List Lexeme → List ℕ → List Item → Type 0 where
+  block : {b : List ℕ} {ts : List Lexeme} {is : List Item} → ReadsItems ts is → have_literals is ≡ true → ReadsCommon (Mark Slash ∷ Named b ∷ Mark Slash ∷ ts) b is
 
 -- an actual that is a place, and one that is a name
 abbrev pub as_place : (Var → Terms → Runtime) → Terms → Option Runtime

@@ -2,6 +2,7 @@
 use Rattle.std.specs.Prelude.{◌≡◌, ℕ, ◌^◌, ◌<◌, ◌≤◌, ℤ, pos, negsuc, Bool, true, false, ◌&&◌, ◌||◌, List, [], ◌∷◌, length, None, is_some}
 use Rattle.std.specs.List.{All, list_all}
 use Rattle.adj_tree.specs.Code.{Var, plain, shadow, helper, Term, Terms, lit, var, elem, neg, bin, pow, power_of, abs, none, more, Test, compare, negation, conjunction, disjunction, Runtime, push_word, pop_word, push_array, pop_array, push_control, pop_control, zero_array, begin_reversal, count_actions, give_action, end_reversal, Mark, unmarked, with_count, count_from, Act, Code, assign, choose, loop, during, call, runtime, stop, step, Extent, fixed, given, Declaration, Procedure}
+use Rattle.adj_tree.specs.Common.{Common, Shared}
 use Rattle.def_text.specs.Char.{is_capital, is_name_char}
 use Rattle.def_text.specs.Grammar.{is_absolute, operation_of, joins_literals}
 use Rattle.def_text.specs.Statement.{runtime_call}
@@ -131,3 +132,16 @@ pub record IsWrittenProcedure (p : Procedure) : Type 0 where
 -- each unit of the program is written
 abbrev pub IsWritten : List Procedure → Type 0
 IsWritten ps = All IsWrittenProcedure ps
+
+-- a COMMON statement of such a text
+pub record IsWrittenCommon (c : Common) : Type 0 where
+  pub named : IsName c.block
+  pub items : All IsWrittenDeclaration c.items
+
+pub record IsWrittenShared (s : Shared) : Type 0 where
+  pub unit : IsWrittenProcedure s.unit
+  pub commons : All IsWrittenCommon s.commons
+
+-- each unit and its COMMON statements are written
+abbrev pub AreWritten : List Shared → Type 0
+AreWritten ss = All IsWrittenShared ss

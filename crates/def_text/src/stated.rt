@@ -22,6 +22,7 @@ pub enum Kind {
     Subroutine,
     Integer,
     Call,
+    Common,
 }
 
 /// A statement of a text.

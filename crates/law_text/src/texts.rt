@@ -5,12 +5,13 @@ ghost use Rattle.adj_tree.specs.Code.{Procedure};
 ghost use Rattle.adj_tree.specs.Lines.{unlined};
 ghost use Rattle.def_text.specs.Grammar.{Syntax, Sum, Derives};
 ghost use Rattle.def_text.specs.Machine.{Stops, wanting, read, syntaxes};
-ghost use Rattle.def_text.specs.Fits.{Fits};
-ghost use Rattle.def_text.specs.Reads.{Reads};
+ghost use Rattle.adj_tree.specs.Common.{Shared};
+ghost use Rattle.def_text.specs.Fits.{Fits, AllFit};
+ghost use Rattle.def_text.specs.Reads.{ReadsShared, Reads};
 ghost use Rattle.def_text.specs.ReadsAs.{ReadsAs};
 ghost use Rattle.def_text.specs.Text.{text_of};
 ghost use Rattle.def_text.specs.Lexeme.{Lexeme};
-ghost use Rattle.def_text.specs.Written.{IsWritten};
+ghost use Rattle.def_text.specs.Written.{IsWritten, AreWritten};
 
 /// The canonical text of a written program reads as that program, up to line numbers.
 pub fn text_reads_back()
@@ -30,8 +31,10 @@ pub fn expressions_are_read()
     ensures one { (lexemes rest others : List Lexeme) (s t : Syntax) → Derives Sum lexemes rest s → Derives Sum lexemes others t → Stops rest → Stops others → (s ≡ t) × (rest ≡ others) }
 {}
 
-/// What a text reads as is written, where its literals and extents are words; so its canonical text reads as the same program, up to line numbers.
+/// What a text reads as is written, where its literals and extents are words, and so are its COMMON statements. The canonical text of a program
+/// without these reads as the same program, up to line numbers.
 pub fn readings_are_written()
     ensures written { (bytes : List ℕ) (program : List Procedure) → Reads bytes program → Fits program → IsWritten program }
+    ensures shared { (bytes : List ℕ) (program : List Shared) → ReadsShared bytes program → AllFit program → AreWritten program }
     ensures rewritten { (bytes : List ℕ) (program : List Procedure) → Reads bytes program → Fits program → ReadsAs (text_of program) program }
 {}

@@ -3,7 +3,7 @@ use Rattle.adj_tree.specs.Code as code
 use Rattle.adj_tree.specs.View.{mark_of, test_of, act_of}
 use Rattle.adj_tree.specs.declared.expr.Cond.{Cond}
 use Rattle.adj_tree.specs.declared.stmt.Act.{Act}
-use Rattle.def_text.specs.Form.{integers, simple, logical, opens_do, opens_while, opens_if, otherwise_if}
+use Rattle.def_text.specs.Form.{integers, common, simple, logical, opens_do, opens_while, opens_if, otherwise_if}
 use Rattle.def_text.specs.Lexeme.{lexemes_of}
 use Rattle.def_text.specs.Statement as statement
 use Rattle.def_text.specs.declared.stated.Kind.TheVariants as kind
@@ -13,7 +13,7 @@ use Rattle.adj_parse_statement.specs.declared.content.Item.{Item}
 use Rattle.adj_parse_statement.specs.declared.content.Range.{Range}
 use Rattle.adj_parse_statement.specs.declared.content.Said.TheVariants as says
 use Rattle.adj_parse_statement.specs.declared.label.Label.{Label}
-use Rattle.adj_parse_statement.proofs.Phrased.{seen_found, ended_found, said_of, said_integer, said_assign, said_call, said_logical, said_do, said_do_while, said_block_if, said_else_if, said_implicit, said_end_do, said_continue, said_else, said_end_if, said_return, said_end}
+use Rattle.adj_parse_statement.proofs.Phrased.{seen_found, ended_found, said_of, said_integer, said_common, said_assign, said_call, said_logical, said_do, said_do_while, said_block_if, said_else_if, said_implicit, said_end_do, said_continue, said_else, said_end_if, said_return, said_end}
 use Rattle.adj_parse_statement.proofs.statement.said.Goals as goal
 
 pub returns-in_ok-items-in-Integer : goal.returns-in_ok-items-in-Integer
@@ -23,6 +23,14 @@ returns-in_ok-items-in-Integer c =
     let ws = lexemes_in c.new-lexemes.result in
     let same = c.new-lexemes.ensures ∙ ap (λ t. lexemes_of t c.as_slice-2.result.now) c.as_slice.ensures.members ∙ ap (lexemes_of s.text) c.as_slice-2.ensures.members in
     record { said = seen_found {A = Vec Item Global} {D = List statement.Item} (form_of mark) says.Integers (λ v. map item_of v.items) integers (λ a. refl) _ _ _ _ c.integers.ensures c.in_ok-items-in-Integer.ensures (said_of c.args.limit mark s.kind kind.Integer ws (lexemes_of s.text s.tokens) c.in-Integer.is same ∙ said_integer c.args.limit mark ws) }
+
+pub returns-in_ok-shared-in-Common : goal.returns-in_ok-shared-in-Common
+returns-in_ok-shared-in-Common c =
+    let s = c.args.stated.now in
+    let mark = mark_of s.mark in
+    let ws = lexemes_in c.new-lexemes.result in
+    let same = c.new-lexemes.ensures ∙ ap (λ t. lexemes_of t c.as_slice-2.result.now) c.as_slice.ensures.members ∙ ap (lexemes_of s.text) c.as_slice-2.ensures.members in
+    record { said = seen_found {A = List ℕ × Vec Item Global} {D = List ℕ × List statement.Item} (form_of mark) (λ p. says.Common p.0 p.1) (λ p. (p.0, map item_of p.1.items)) (λ p. common p.0 p.1) (λ a. refl) _ _ _ _ c.in_block.ensures c.in_ok-shared-in-Common.ensures (said_of c.args.limit mark s.kind kind.Common ws (lexemes_of s.text s.tokens) c.in-Common.is same ∙ said_common c.args.limit mark ws) }
 
 pub returns-in_ok-assignment-in-Assign : goal.returns-in_ok-assignment-in-Assign
 returns-in_ok-assignment-in-Assign c =
