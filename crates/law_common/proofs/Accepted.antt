@@ -1,188 +1,190 @@
--- Where all layouts of a block are equal and no dummy's name is repeated, the conditions on names and slots hold.
-use Rattle.std.proofs.Common.{◌≡◌, ℕ, zero, suc, ◌<◌, Bool, true, false, List, [], ◌∷◌, ◌++◌, refl, sym, ap, ◌∙◌, subst, arith, if◌then◌else◌}
-use Rattle.std.specs.Prelude.{◌==◌, ◌||◌, ◌&&◌, length}
-use Rattle.adj_tree.specs.Code.{plain, name_eq}
-use Rattle.adj_tree.proofs.Names.{nat_same, name_refl, name_same}
+-- Where reading and checking give no fault, each unit lowers.
+use Rattle.std.proofs.Common.{◌≡◌, ℕ, true, List, [], ◌∷◌, ◌++◌, map, sym, ◌∙◌, subst}
+use Rattle.std.specs.Prelude.{Some}
+use Rattle.adj_tree.specs.Code.{Var, plain, Procedure}
 use Rattle.def_meaning.specs.Apart.{has_name, AreApart}
-use Rattle.def_meaning.proofs.Booleans.{and_true, or_false}
-use Rattle.def_meaning.proofs.Variables.{name_comm}
-use Rattle.law_common.specs.Blocks.{Shared, first_declaring, without_repeats, all_blocks, blocks, uses, chosen, used_blocks}
-use Rattle.law_common.specs.Members.{is_slot, slot_name, Member, member_names, member_slots, found_members, block_members, slots_for, members, owned, swapped, swap}
-use Rattle.law_common.specs.Passing.{NoSlots, AllSlots}
-use Rattle.law_common.specs.Lowers.{Each, LowersUnit, Lowers}
-use Rattle.law_common.specs.Refused.{found_layout}
-use Rattle.law_common.specs.Accepted.{AcceptedUnit, Accepted}
-use Rattle.law_common.specs.Theorem.{LoweringKeeps}
-use Rattle.law_common.proofs.Keeping.{lowering_keeps}
-use Rattle.law_common.proofs.Laying.{found_of_block, slot_of_block, all_slots}
-use Rattle.law_common.proofs.Using.{calls_fit}
-use Rattle.law_common.proofs.Literal.{laid_out}
-use Rattle.law_common.proofs.Freshness.{body_stays, declarations_stay}
-use Rattle.law_common.proofs.Slotted.{numbered, slots_append, first_slots, member_for}
+use Rattle.def_meaning.specs.Units.{declared}
+use Rattle.def_names.specs.Fault.{Rules}
+use Rattle.def_names.specs.Check.{IsSound}
+use Rattle.def_meaning.specs.Written.{handed_back}
+use Rattle.def_names.specs.Variables.{dummy_places, declared_places, statement_places, is_integer}
+use Rattle.adj_tree.specs.Common.{Shared}
+use Rattle.def_common.specs.Blocks.{find_shared, declares, layout, all_blocks, blocks, uses, used_blocks}
+use Rattle.def_common.specs.Members.{Member, member_names, member_slots, names_of_blocks, block_members, slots_for, members, taken_in, owned, swapped, swap}
+use Rattle.def_common.specs.Refused.{first_layout}
+use Rattle.def_common.specs.Slots.{slot_declarations}
+use Rattle.def_common.specs.Lowering.{lowered_unit, lowered_program}
+use Rattle.law_common.specs.Passing.{EachCall, NoSlots, AllSlots}
+use Rattle.law_common.specs.Lowers.{Each, EachIn, CallCounted, RenamesUnit, LowersUnit, Renames, Lowers}
+use Rattle.law_common.specs.Accepted.{Accepted}
+use Rattle.law_common.specs.Theorem.{LoweringKeeps, SourceKeeps}
+use Rattle.law_common.proofs.Laying.{all_slots, each_append, each_front, each_behind, each_map, each_of_map, each_zip}
+use Rattle.law_common.proofs.Refused.{laid_alike}
+use Rattle.law_common.proofs.Slotted.{chosen_among, member_for}
+use Rattle.law_common.proofs.Literal.{IsLiteral, blocks_literal, laid_out}
+use Rattle.law_common.proofs.Freshness.{Said, body_stays, declarations_stay}
+use Rattle.law_common.proofs.Keeping.{call_map, each_found, has_parts, names_of, renamed, lowering_keeps}
+use Rattle.law_common.proofs.Handed.{handed}
+use Rattle.law_common.proofs.Using.{CallMatches, calls_fit, calls_both}
+use Rattle.law_common.proofs.Separate.{append_apart, apart_behind, none_behind, names_no_slots, own_stay, slots_apart, chosen_apart, repeats_apart}
+use Rattle.law_common.proofs.Faults.{Clean, all_clean, all_integers, dummies_apart, good_extents, calls_clean, calls_apart}
+use Rattle.law_common.proofs.Declared.{IsTyped, all_declared}
+use Rattle.law_common.proofs.Letters.{Begins, no_slots_of, letters}
+use Rattle.law_common.proofs.LoweredWritten.{each_of_all}
+use Rattle.def_text.specs.Written.{IsWrittenShared}
+use Rattle.law_common.proofs.Named.{members_begin, members_own, members_passed}
+use Rattle.law_common.proofs.Said.{all_said}
+use Rattle.law_common.proofs.Calls.{Before, calls_before, calls_after, CallClean, call_counted, counted_renamed, CallApart, call_matches}
+use Rattle.law_common.proofs.Fitting.{Good, Fits, declared_good, good_fits, of_blocks, from_extents, laid_same, laid_each}
 
--- ---- blocks are named once
+-- ---- one unit without faults
 
-seen_none : (seen bs : List (List ℕ)) (x : List ℕ) → has_name x seen ≡ true → has_name x (without_repeats seen bs) ≡ false
-seen_none seen [] x h = refl
-seen_none seen (b ∷ bs) x h = go (has_name b seen) refl (seen_none seen bs x h) (seen_none (b ∷ seen) bs x (more (name_eq x b) h))
-  where
-    more : {a : Bool} (c : Bool) → a ≡ true → (c || a) ≡ true
-    more true e = refl
-    more false e = e
+module _ (m : Rules) (ps : List Shared) (s : Shared) (clean : Clean m ps s) where
+  abbrev ms : List Member
+  ms = members ps s
 
-    other : (c : Bool) → name_eq x b ≡ c → has_name b seen ≡ false → c ≡ false
-    other true e k = absurd (let z : true ≡ false = sym h ∙ ap (λ y. has_name y seen) (name_same x b e) ∙ k in cc)
-    other false e k = refl
+  abbrev lowered' : Procedure
+  lowered' = lowered_unit ps s
 
-    go : (c : Bool) → has_name b seen ≡ c → has_name x (without_repeats seen bs) ≡ false → has_name x (without_repeats (b ∷ seen) bs) ≡ false → has_name x (if c then without_repeats seen bs else b ∷ without_repeats (b ∷ seen) bs) ≡ false
-    go true e r q = r
-    go false e r q = ap (λ c. c || has_name x (without_repeats (b ∷ seen) bs)) (other (name_eq x b) refl e) ∙ q
+  pub all_apart : AreApart (s.unit.dummies ++ member_names ms)
+  all_apart = dummies_apart m (lowered_program ps) lowered' clean.names
 
-repeats_apart : (seen bs : List (List ℕ)) → AreApart (without_repeats seen bs)
-repeats_apart seen [] = tt
-repeats_apart seen (b ∷ bs) = go (has_name b seen) (repeats_apart seen bs) (repeats_apart (b ∷ seen) bs)
-  where
-    go : (c : Bool) → AreApart (without_repeats seen bs) → AreApart (without_repeats (b ∷ seen) bs) → AreApart (if c then without_repeats seen bs else b ∷ without_repeats (b ∷ seen) bs)
-    go true r q = r
-    go false r q = (seen_none (b ∷ seen) bs b (ap (λ c. c || has_name b seen) (name_refl b)), q)
+  -- a member is declared, or an integer by its first letter
+  typed : Each (IsTyped s.unit ms) ms
+  typed =
+      each_of_map (λ x. is_integer lowered' x ≡ true) (λ m. m.name) ms
+      (each_behind (λ x. is_integer lowered' x ≡ true) s.unit.dummies (member_names ms)
+      (each_of_map (λ p. is_integer lowered' p.1 ≡ true) (λ (d : List ℕ). (lowered'.line, d)) (s.unit.dummies ++ member_names ms)
+      (each_front (λ p. is_integer lowered' p.1 ≡ true) (dummy_places lowered') (declared_places lowered' ++ statement_places lowered') (all_integers m (lowered_program ps) lowered' clean.names))))
 
-chosen_none : (f : List ℕ → Bool) (bs : List (List ℕ)) (x : List ℕ) → has_name x bs ≡ false → has_name x (chosen f bs) ≡ false
-chosen_none f [] x h = refl
-chosen_none f (b ∷ bs) x h = let p = or_false (name_eq x b) (has_name x bs) h in go (f b) p.0 (chosen_none f bs x p.1)
-  where
-    go : (c : Bool) → name_eq x b ≡ false → has_name x (chosen f bs) ≡ false → has_name x (if c then b ∷ chosen f bs else chosen f bs) ≡ false
-    go true e r = ap (λ c. c || has_name x (chosen f bs)) e ∙ r
-    go false e r = r
+  -- so the lowered unit declares it with its extents
+  pub members_declared : Each (λ m. declared lowered'.declarations (plain m.name) ≡ m.extents) ms
+  members_declared = all_declared s.unit ms (apart_behind s.unit.dummies (member_names ms) all_apart) typed (members_own ps s) (members_passed ps s)
 
-chosen_apart : (f : List ℕ → Bool) (bs : List (List ℕ)) → AreApart bs → AreApart (chosen f bs)
-chosen_apart f [] h = tt
-chosen_apart f (b ∷ bs) h = go (f b) (chosen_none f bs b h.0) (chosen_apart f bs h.1)
-  where
-    go : (c : Bool) → has_name b (chosen f bs) ≡ false → AreApart (chosen f bs) → AreApart (if c then b ∷ chosen f bs else chosen f bs)
-    go true e r = (e, r)
-    go false e r = r
+  -- which are good
+  pub members_good : Each (λ m. (u : Procedure) × Good u m.extents) ms
+  members_good =
+      each_map (λ l. declared lowered'.declarations (plain l.name) ≡ l.extents) (λ l. (u : Procedure) × Good u l.extents)
+      (λ l e. (lowered', subst (Good lowered') e (declared_good lowered' lowered'.declarations (good_extents m (lowered_program ps) lowered' clean.names) (plain l.name)))) ms members_declared
 
--- ---- slots are apart
+-- ---- all units
 
-not_below : (b : List ℕ) (i j n : ℕ) → i < j → has_name (slot_name b i) (numbered b j n) ≡ false
-not_below b i j zero h = refl
-not_below b i j (suc n) h = ap (λ c. (c && name_eq b b) || has_name (slot_name b i) (numbered b (suc j) n)) (differ (i == j) refl) ∙ not_below b i (suc j) n (omega arith)
-  where
-    differ : (c : Bool) → (i == j) ≡ c → c ≡ false
-    differ true e = absurd (let z : i ≡ j = nat_same i j e in omega arith)
-    differ false e = refl
+module _ (m : Rules) (ps : List Shared) (h : Accepted m ps) where
+  same_slots : Each (λ s. member_slots (members ps s) ≡ slots_for ps s.unit.name) ps
+  same_slots = member_for ps h.alike
 
-numbered_apart : (b : List ℕ) (i n : ℕ) → AreApart (numbered b i n)
-numbered_apart b i zero = tt
-numbered_apart b i (suc n) = (not_below b i (suc i) n (omega arith), numbered_apart b (suc i) n)
+  written_all : Each IsWrittenShared ps
+  written_all = each_of_all IsWrittenShared ps h.written
 
--- two lists that are apart, where the first has none of the second
-append_apart : (xs ys : List (List ℕ)) → AreApart xs → AreApart ys → Each (λ x. has_name x ys ≡ false) xs → AreApart (xs ++ ys)
-append_apart [] ys h k e = k
-append_apart (x ∷ xs) ys h k e = (go xs h.0, append_apart xs ys h.1 k e.1)
-  where
-    go : (xs : List (List ℕ)) → has_name x xs ≡ false → has_name x (xs ++ ys) ≡ false
-    go [] j = e.0
-    go (z ∷ xs) j = let p = or_false (name_eq x z) (has_name x xs) j in ap (λ c. c || has_name x (xs ++ ys)) p.0 ∙ go xs p.1
+  cleans : Each (Clean m ps) ps
+  cleans = all_clean m ps h.sound
 
--- a slot of one block is none of others
-slot_parts : (b c : List ℕ) (i j : ℕ) → slot_name b i ≡ slot_name c j → name_eq b c ≡ true
-slot_parts b c i j e =
-    let same : name_eq (slot_name b i) (slot_name c j) ≡ true = ap (λ z. name_eq z (slot_name c j)) e ∙ name_refl (slot_name c j) in
-    (and_true (i == j) (name_eq b c) same).1
+  among_blocks : (name : List ℕ) → Each (λ b. has_name b (blocks ps) ≡ true) (used_blocks ps name)
+  among_blocks name = chosen_among (uses ps name) (blocks ps)
 
-not_other : (ps : List Shared) (b : List ℕ) (i : ℕ) (bs : List (List ℕ)) → has_name b bs ≡ false → has_name (slot_name b i) (member_slots (block_members ps bs)) ≡ false
-not_other ps b i [] h = refl
-not_other ps b i (c ∷ bs) h =
-    let p = or_false (name_eq b c) (has_name b bs) h in
-    ap (has_name (slot_name b i)) (slots_append (found_members c (first_declaring c ps)) (block_members ps bs))
-    ∙ neither (member_slots (found_members c (first_declaring c ps))) (member_slots (block_members ps bs)) (none p.0 (has_name (slot_name b i) (member_slots (found_members c (first_declaring c ps)))) refl) (not_other ps b i bs p.1)
-  where
-    neither : (xs ys : List (List ℕ)) → has_name (slot_name b i) xs ≡ false → has_name (slot_name b i) ys ≡ false → has_name (slot_name b i) (xs ++ ys) ≡ false
-    neither [] ys e f = f
-    neither (x ∷ xs) ys e f = let p = or_false (name_eq (slot_name b i) x) (has_name (slot_name b i) xs) e in ap (λ c. c || has_name (slot_name b i) (xs ++ ys)) p.0 ∙ neither xs ys p.1 f
+  -- extents of blocks fit
+  all_fit : (name : List ℕ) → Each (λ m. Fits m.extents) (block_members ps (used_blocks ps name))
+  all_fit name =
+      each_map (λ m. IsLiteral m.extents × ((u : Procedure) × Good u m.extents)) (λ m. Fits m.extents) (λ m k. good_fits k.1.0 m.extents k.0 k.1.1) (block_members ps (used_blocks ps name))
+      (each_zip (λ m. IsLiteral m.extents) (λ m. (u : Procedure) × Good u m.extents) (block_members ps (used_blocks ps name)) (blocks_literal ps h.alike (used_blocks ps name) (among_blocks name))
+      (of_blocks ps (λ m. (u : Procedure) × Good u m.extents)
+      (each_map (Clean m ps) (λ t. (find_shared ps t.unit.name ≡ Some t) × Each (λ m. (u : Procedure) × Good u m.extents) (members ps t)) (λ t c. (c.found, members_good m ps t c)) ps cleans)
+      (used_blocks ps name) (among_blocks name)))
 
-    none : name_eq b c ≡ false → (d : Bool) → has_name (slot_name b i) (member_slots (found_members c (first_declaring c ps))) ≡ d → d ≡ false
-    none e false k = refl
-    none e true k =
-        let z = slot_of_block c (found_members c (first_declaring c ps)) (found_of_block c (first_declaring c ps)) (slot_name b i) k in
-        sym (slot_parts b c i z.0 z.1) ∙ e
+  module _ (s : Shared) (same : member_slots (members ps s) ≡ slots_for ps s.unit.name) (clean : Clean m ps s) (named : IsWrittenShared s) where
+    slots : AllSlots (member_slots (members ps s))
+    slots = subst AllSlots (sym same) (all_slots ps (used_blocks ps s.unit.name))
 
-slots_apart : (ps : List Shared) (bs : List (List ℕ)) → AreApart bs → AreApart (member_slots (block_members ps bs))
-slots_apart ps [] h = tt
-slots_apart ps (b ∷ bs) h =
-    subst AreApart (sym (slots_append (found_members b (first_declaring b ps)) (block_members ps bs) ∙ ap (λ l. l ++ member_slots (block_members ps bs)) (first_slots b (first_declaring b ps))))
-    (append_apart (numbered b 1 n) (member_slots (block_members ps bs)) (numbered_apart b 1 n) (slots_apart ps bs h.1) (each 1 n))
-  where
-    n : ℕ
-    n = length (found_layout b (first_declaring b ps))
+    slots_are_apart : AreApart (member_slots (members ps s))
+    slots_are_apart = subst AreApart (sym same) (slots_apart ps (used_blocks ps s.unit.name) (chosen_apart (uses ps s.unit.name) (blocks ps) (repeats_apart [] (all_blocks ps))))
 
-    each : (i n : ℕ) → Each (λ x. has_name x (member_slots (block_members ps bs)) ≡ false) (numbered b i n)
-    each i zero = tt
-    each i (suc n) = (not_other ps b i bs h.0, each (suc i) n)
+    begin : Each (λ m. Begins m.name) (members ps s)
+    begin = members_begin ps written_all s named
 
--- ---- names and slots
+    said : Said s.unit
+    said = all_said ps s (letters s named) begin (all_integers m (lowered_program ps) (lowered_unit ps s) clean.names)
 
-apart_behind : (xs ys : List (List ℕ)) → AreApart (xs ++ ys) → AreApart ys
-apart_behind [] ys h = h
-apart_behind (x ∷ xs) ys h = apart_behind xs ys h.1
+    no_slots : NoSlots (s.unit.dummies ++ member_names (members ps s))
+    no_slots =
+        no_slots_of (s.unit.dummies ++ member_names (members ps s)) (each_append Begins s.unit.dummies (member_names (members ps s)) (letters s named).dummies (names (members ps s) begin))
+      where
+        names : (l : List Member) → Each (λ m. Begins m.name) l → Each Begins (member_names l)
+        names [] k = tt
+        names (x ∷ l) k = (k.0, names l k.1)
 
-none_behind : (xs ys : List (List ℕ)) → NoSlots (xs ++ ys) → NoSlots ys
-none_behind [] ys h = h
-none_behind (x ∷ xs) ys h = none_behind xs ys h.1
+    apart : AreApart (member_names (members ps s) ++ member_slots (members ps s))
+    apart =
+        append_apart (member_names (members ps s)) (member_slots (members ps s)) (apart_behind s.unit.dummies (member_names (members ps s)) (all_apart m ps s clean)) slots_are_apart
+        (names_no_slots (member_names (members ps s)) (member_slots (members ps s)) (none_behind s.unit.dummies (member_names (members ps s)) no_slots) slots)
 
-no_slot_among : (x : List ℕ) → is_slot (plain x) ≡ false → (ys : List (List ℕ)) → AllSlots ys → has_name x ys ≡ false
-no_slot_among x h [] k = refl
-no_slot_among x h (y ∷ ys) k = ap (λ c. c || has_name x ys) (go (name_eq x y) refl) ∙ no_slot_among x h ys k.1
-  where
-    go : (c : Bool) → name_eq x y ≡ c → c ≡ false
-    go true e = sym k.0 ∙ ap (λ z. is_slot (plain z)) (sym (name_same x y e)) ∙ h
-    go false e = refl
+    alike : (b : List ℕ) → has_name b (blocks ps) ≡ true → declares b s ≡ true → layout b s ≡ first_layout ps b
+    alike b k d = ((each_found _ ps (laid_alike ps h.alike b k) s.unit.name s clean.found).is d).0
 
-names_no_slots : (xs ys : List (List ℕ)) → NoSlots xs → AllSlots ys → Each (λ x. has_name x ys ≡ false) xs
-names_no_slots [] ys h k = tt
-names_no_slots (x ∷ xs) ys h k = (no_slot_among x h.0 ys k, names_no_slots xs ys h.1 k)
+    -- members are declared in the lowered unit as their slots
+    placed : Each (λ m. declared (lowered_unit ps s).declarations (plain m.name) ≡ declared (slot_declarations ps s.unit.name) (plain m.slot)) (members ps s)
+    placed =
+        each_map (λ l. (declared (lowered_unit ps s).declarations (plain l.name) ≡ l.extents) × (declared _ (plain l.slot) ≡ l.extents)) (λ l. declared (lowered_unit ps s).declarations (plain l.name) ≡ declared (slot_declarations ps s.unit.name) (plain l.slot))
+        (λ l k. k.0 ∙ sym k.1 ∙ laid_same (members ps s) (block_members ps (used_blocks ps s.unit.name)) same (from_extents ps s alike (used_blocks ps s.unit.name) (among_blocks s.unit.name) (taken_in ps s)) (plain l.slot)) (members ps s)
+        (each_zip _ _ (members ps s) (members_declared m ps s clean) (laid_each (members ps s) slots_are_apart))
 
-stays : (ms : List Member) (x : List ℕ) → has_name x (member_names ms) ≡ false → has_name x (member_slots ms) ≡ false → swapped ms x ≡ x
-stays [] x h k = refl
-stays (m ∷ ms) x h k =
-    let p = or_false (name_eq x m.name) (has_name x (member_names ms)) h in
-    let q = or_false (name_eq x m.slot) (has_name x (member_slots ms)) k in
-    (λ i. if name_comm x m.name p.0 i then m.slot else (if name_comm x m.slot q.0 i then m.name else swapped ms x)) ∙ stays ms x p.1 q.1
+    abbrev body_same : EachIn (λ x. swap (owned (members ps s)) x ≡ swap (members ps s) x) s.unit.body
+    body_same = body_stays ps s said (letters s named) slots
 
-own_stay : (ms : List Member) (own : List (List ℕ)) → AreApart (own ++ member_names ms) → NoSlots (own ++ member_names ms) → AllSlots (member_slots ms) → Each (λ d. (swapped ms d ≡ d) × (is_slot (plain d) ≡ false)) own
-own_stay ms [] h k a = tt
-own_stay ms (d ∷ own) h k a = ((stays ms d (later own h.0) (no_slot_among d k.0 (member_slots ms) a), k.0), own_stay ms own h.1 k.1 a)
-  where
-    later : (xs : List (List ℕ)) → has_name d (xs ++ member_names ms) ≡ false → has_name d (member_names ms) ≡ false
-    later [] e = e
-    later (x ∷ xs) e = later xs (or_false (name_eq d x) (has_name d (xs ++ member_names ms)) e).1
+    passes : EachCall (λ name args. names_of_blocks (members ps s) (used_blocks ps name) ≡ map (swapped (members ps s)) (slots_for ps name)) s.unit.body
+    passes = handed ps h.alike s clean.found apart
 
-module _ (ps : List Shared) (h : Accepted ps) where
-  unit_lowers : (s : Shared) → member_slots (members ps s) ≡ slots_for ps s.unit.name → AcceptedUnit ps s → LowersUnit ps s
-  unit_lowers s same a =
+    -- calls have as many actuals as own dummies
+    counted : EachCall (CallCounted ps) s.unit.body
+    counted =
+        call_map (Before ps (members ps s) (CallClean ps same_slots (members ps s) (lowered_unit ps s))) (CallCounted ps) (call_counted ps same_slots (members ps s) (lowered_unit ps s)) s.unit.body
+        (calls_before ps (members ps s) (CallClean ps same_slots (members ps s) (lowered_unit ps s)) s.unit.body passes (calls_clean (lowered_program ps) (lowered_unit ps s) clean.calls))
+
+    unit_renames : RenamesUnit ps s
+    unit_renames = record {
+      apart = apart;
+      slots = same;
+      dummies = own_stay (members ps s) s.unit.dummies (all_apart m ps s clean) no_slots slots;
+      body = body_same;
+      declarations = declarations_stay ps s said (letters s named) slots;
+      layout = laid_out ps h.alike s.unit.name (all_fit s.unit.name);
+      placed = placed;
+      counts = calls_after (swap (owned (members ps s))) (swap (members ps s)) (CallCounted ps) (CallCounted ps) (counted_renamed ps (swap (members ps s))) s.unit.body body_same counted;
+      handed = passes;
+    }
+
+  each_renames : (l : List Shared) → Each (λ s. member_slots (members ps s) ≡ slots_for ps s.unit.name) l → Each (Clean m ps) l → Each IsWrittenShared l → Each (RenamesUnit ps) l
+  each_renames [] a b c = tt
+  each_renames (s ∷ l) a b c = (unit_renames s a.0 b.0 c.0, each_renames l a.1 b.1 c.1)
+
+  renames : Renames ps
+  renames = each_renames ps same_slots cleans written_all
+
+  -- what both programs write is the same, so calls match
+  unit_lowers : (s : Shared) → RenamesUnit ps s → member_slots (members ps s) ≡ slots_for ps s.unit.name → Clean m ps s → IsWrittenShared s → LowersUnit ps s
+  unit_lowers s r same clean named =
+      let has = has_parts ps renames in
       let ms = members ps s in
-      let all : AllSlots (member_slots ms) = subst AllSlots (sym same) (all_slots ps (used_blocks ps s.unit.name)) in
-      let behind = apart_behind s.unit.dummies (member_names ms) a.apart in
-      let apart : AreApart (member_slots ms) = subst AreApart (sym same) (slots_apart ps (used_blocks ps s.unit.name) (chosen_apart (uses ps s.unit.name) (blocks ps) (repeats_apart [] (all_blocks ps)))) in
-      record {
-        apart = append_apart (member_names ms) (member_slots ms) behind apart (names_no_slots (member_names ms) (member_slots ms) (none_behind s.unit.dummies (member_names ms) a.names) all);
-        slots = same;
-        dummies = own_stay ms s.unit.dummies a.apart a.names all;
-        body = body_stays ps s a.text all;
-        declarations = declarations_stay ps s a.text all a.extents;
-        layout = laid_out ps h.alike s.unit.name a.fit;
-        placed = a.placed;
-        calls = calls_fit ps s.unit.name s a.found (swap (owned (members ps s))) a.calls;
+      let u = lowered_unit ps s in
+      let r' : List ℕ → Var → Var = λ name. names_of ps renames (find_shared ps name) in record {
+        renames = r;
+        calls =
+            calls_fit ps s.unit.name s clean.found (swap (owned ms))
+            (calls_after (swap (owned ms)) (swap ms) (λ name args. CallCounted ps name args × Before ps ms (CallApart ps has r' (renamed ps renames) ms r.apart u) name args) (CallMatches ps)
+            (λ name args k. call_matches ps has r' (renamed ps renames) ms r.apart u name args k.0 k.1) s.unit.body r.body
+            (calls_both (CallCounted ps) (Before ps ms (CallApart ps has r' (renamed ps renames) ms r.apart u)) (λ name args. CallCounted ps name args × Before ps ms (CallApart ps has r' (renamed ps renames) ms r.apart u) name args) (λ name args a b. (a, b)) s.unit.body
+            (counted s same clean named) (calls_before ps ms (CallApart ps has r' (renamed ps renames) ms r.apart u) s.unit.body r.handed (calls_apart (handed_back (lowered_program ps)) u clean.writes))));
       }
 
-  each_lowers : (l : List Shared) → Each (λ s. member_slots (members ps s) ≡ slots_for ps s.unit.name) l → Each (AcceptedUnit ps) l → Each (LowersUnit ps) l
-  each_lowers [] e a = tt
-  each_lowers (s ∷ l) e a = (unit_lowers s e.0 a.0, each_lowers l e.1 a.1)
+  each_lowers : (l : List Shared) → Each (RenamesUnit ps) l → Each (λ s. member_slots (members ps s) ≡ slots_for ps s.unit.name) l → Each (Clean m ps) l → Each IsWrittenShared l → Each (LowersUnit ps) l
+  each_lowers [] r a b c = tt
+  each_lowers (s ∷ l) r a b c = (unit_lowers s r.0 a.0 b.0 c.0, each_lowers l r.1 a.1 b.1 c.1)
 
   pub accepted_lowers : Lowers ps
-  accepted_lowers = each_lowers ps (member_for ps h.alike) h.units
+  accepted_lowers = each_lowers ps renames same_slots cleans written_all
 
 -- so each unit's run with blocks is its run in the lowered program
-pub accepted_keeps : {C : Type 0} → LoweringKeeps Accepted C
-accepted_keeps ps h = lowering_keeps ps (accepted_lowers ps h)
+pub accepted_keeps : LoweringKeeps
+accepted_keeps m ps h = (lowering_keeps ps (accepted_lowers m ps h), lowering_keeps ps (accepted_lowers m ps h))
+
+pub source_keeps : SourceKeeps
+source_keeps m bytes program r w s = accepted_keeps m r.shared (record { written = w; alike = r.alike; sound = subst (IsSound m) r.is s })

@@ -1,43 +1,31 @@
 -- The members that a unit passes through have names that its text doesn't have.
 use Rattle.std.proofs.Common.{◌≡◌, ◌⊎◌, inl, inr, ℕ, suc, ◌+◌, Bool, true, false, List, [], ◌∷◌, ◌++◌, map, refl, sym, ap, ◌∙◌, if◌then◌else◌}
+use Rattle.std.proofs.lemmas.List.{map-append}
 use Rattle.std.specs.Prelude.{◌||◌, length, flat_map, Option, Some, None}
 use Rattle.adj_tree.specs.Code.{Var, plain, shadow, helper, name_eq, Term, lit, var, elem, neg, bin, pow, power_of, abs, Terms, none, more, Test, compare, negation, conjunction, disjunction, Runtime, push_word, pop_word, push_array, pop_array, push_control, pop_control, zero_array, begin_reversal, count_actions, give_action, end_reversal, Mark, unmarked, with_count, count_from, Act, assign, choose, loop, during, call, runtime, Code, stop, step, Extent, fixed, given, Declaration, Procedure}
 use Rattle.adj_tree.proofs.Names.{name_refl, name_same}
 use Rattle.def_meaning.specs.Apart.{has_name}
 use Rattle.def_names.specs.Fresh.{fresh}
+use Rattle.def_names.specs.NameFaults.{extent_names}
 use Rattle.def_names.specs.Statements.{At, inner, statements}
 use Rattle.def_names.specs.Standing.{Standing, standing, scalar, count_of, in_term, in_terms, in_place, in_test, in_actual, in_actuals, in_runtime, in_mark, in_act}
 use Rattle.def_names.specs.Variables.{Name, dummy_places, declared_places, statement_places, places, variables}
 use Rattle.def_names.proofs.Fresh.{fresh-is_free}
 use Rattle.def_names.proofs.Lists.{names_at, first_places-stand}
-use Rattle.law_common.specs.Blocks.{Common, Shared, declares, first_declaring}
-use Rattle.law_common.specs.Members.{is_slot, Member, member_names, member_slots, own_items, own_members, found_members, passed_members, members_from, members, taken_in, owned, swapped, swap, swapped_extent, swapped_declaration}
-use Rattle.law_common.specs.Passing.{NoSlots, AllSlots}
+use Rattle.adj_tree.specs.Common.{Common, Shared}
+use Rattle.def_common.specs.Blocks.{declares, first_declaring}
+use Rattle.def_common.specs.Members.{is_slot, Member, member_names, member_slots, own_items, own_members, found_members, passed_members, members_from, members, item_names, names_in, taken_in, owned, swapped, swap, swapped_extent, swapped_declaration}
+use Rattle.law_common.specs.Passing.{AllSlots}
 use Rattle.law_common.specs.Lowers.{Each, EachInTerm, EachInTerms, EachInTest, EachInRuntime, EachInMark, EachInAct, EachIn}
-use Rattle.law_common.specs.Accepted.{ExtentStands}
-use Rattle.law_common.proofs.Laying.{each_append, each_front, each_behind}
-
-true_front : (a b : Bool) → a ≡ true → (a || b) ≡ true
-true_front true b e = refl
-true_front false b e = absurd cc
-
-true_behind : {a : Bool} (b : Bool) → a ≡ true → (b || a) ≡ true
-true_behind true h = refl
-true_behind false h = h
-
-has_append : (x : List ℕ) (xs ys : List (List ℕ)) → has_name x (xs ++ ys) ≡ (has_name x xs || has_name x ys)
-has_append x [] ys = refl
-has_append x (z ∷ xs) ys = go (name_eq x z) (has_append x xs ys)
-  where
-    go : (b : Bool) → has_name x (xs ++ ys) ≡ (has_name x xs || has_name x ys) → (b || has_name x (xs ++ ys)) ≡ ((b || has_name x xs) || has_name x ys)
-    go true e = refl
-    go false e = e
+use Rattle.law_common.proofs.Laying.{each_append, each_front, each_behind, each_zip, true_front, true_behind}
+use Rattle.law_common.proofs.Letters.{Begins, no_slot, ExtentBegins, BeginsDeclared, HasLetters}
+use Rattle.def_names.proofs.NameLists.{has-append}
 
 -- ---- fresh names
 
 module _ (v : List (List ℕ)) where
   -- the unit declares the block, or the name is none of these
-  abbrev IsNew : Member → Type 0
+  abbrev pub IsNew : Member → Type 0
   IsNew m = (m.own ≡ true) ⊎ ((y : List ℕ) → has_name y v ≡ true → name_eq m.name y ≡ false)
 
   abbrev Covers : List (List ℕ) → Type 0
@@ -68,12 +56,12 @@ module _ (v : List (List ℕ)) where
   passed_new line taken c (m ∷ ms) =
       (inr (apart_from (fresh m.name taken) taken c (fresh-is_free m.name taken)), passed_new line (fresh m.name taken ∷ taken) (λ y k. true_behind (name_eq y (fresh m.name taken)) (c y k)) ms)
 
-  from_new : (ps : List Shared) (s : Shared) (taken : List (List ℕ)) → Covers taken → (bs : List (List ℕ)) → Each IsNew (members_from ps s taken bs)
+  pub from_new : (ps : List Shared) (s : Shared) (taken : List (List ℕ)) → Covers taken → (bs : List (List ℕ)) → Each IsNew (members_from ps s taken bs)
   from_new ps s taken c [] = tt
   from_new ps s taken c (b ∷ bs) = go (declares b s) (λ t d. from_new ps s t d bs)
     where
       join : (l : List Member) → Each IsNew l → ((t : List (List ℕ)) → Covers t → Each IsNew (members_from ps s t bs)) → Each IsNew (l ++ members_from ps s (member_names l ++ taken) bs)
-      join l h f = each_append IsNew l (members_from ps s (member_names l ++ taken) bs) h (f (member_names l ++ taken) (λ y k. has_append y (member_names l) taken ∙ true_behind (has_name y (member_names l)) (c y k)))
+      join l h f = each_append IsNew l (members_from ps s (member_names l ++ taken) bs) h (f (member_names l ++ taken) (λ y k. has-append y (member_names l) taken ∙ true_behind (has_name y (member_names l)) (c y k)))
 
       go : (p : Bool) → ((t : List (List ℕ)) → Covers t → Each IsNew (members_from ps s t bs)) →
           (let ms = if p then own_members s.unit b 1 s.commons else passed_members s.unit.line taken (found_members b (first_declaring b ps)) in
@@ -97,9 +85,9 @@ module _ (v : List (List ℕ)) where
 
 -- ---- all names in code
 
-module _ (v : List (List ℕ)) (P : Var → Type 0) (of_plain : (y : List ℕ) → has_name y v ≡ true → P (plain y)) (of_shadow : (y : List ℕ) → P (shadow y)) (of_helper : (o : _) (k : ℕ) → P (helper o k)) where
+module _ (Q : List ℕ → Type 0) (P : Var → Type 0) (of_plain : (y : List ℕ) → Q y → P (plain y)) (of_shadow : (y : List ℕ) → P (shadow y)) (of_helper : (o : _) (k : ℕ) → P (helper o k)) where
   abbrev Stands : List Standing → Type 0
-  Stands l = Each (λ s. has_name s.name v ≡ true) l
+  Stands l = Each (λ s. Q s.name) l
 
   of_standing : (n : Option ℕ) (x : Var) → Stands (standing n x) → P x
   of_standing n (plain x) h = of_plain x h.0
@@ -107,10 +95,10 @@ module _ (v : List (List ℕ)) (P : Var → Type 0) (of_plain : (y : List ℕ) �
   of_standing n (helper o k) h = of_helper o k
 
   front : (l k : List Standing) → Stands (l ++ k) → Stands l
-  front l k h = each_front (λ s. has_name s.name v ≡ true) l k h
+  front l k h = each_front (λ s. Q s.name) l k h
 
   rest : (l k : List Standing) → Stands (l ++ k) → Stands k
-  rest l k h = each_behind (λ s. has_name s.name v ≡ true) l k h
+  rest l k h = each_behind (λ s. Q s.name) l k h
 
   mutual
     of_term : (e : Term) → Stands (in_term e) → EachInTerm P e
@@ -215,10 +203,6 @@ module _ (v : List (List ℕ)) (P : Var → Type 0) (of_plain : (y : List ℕ) �
 
 -- ---- the variables of a unit
 
-names_append : (l k : List (At Name)) → names_at (l ++ k) ≡ names_at l ++ names_at k
-names_append [] k = refl
-names_append (p ∷ l) k = ap (λ z. p.1 ∷ z) (names_append l k)
-
 each_standing : (v : List (List ℕ)) (line : ℕ) (l : List Standing) → ((x : List ℕ) → has_name x (names_at (map (λ (n : Standing). (line, n.name)) l)) ≡ true → has_name x v ≡ true) → Each (λ s. has_name s.name v ≡ true) l
 each_standing v line [] f = tt
 each_standing v line (s ∷ l) f = (f s.name (true_front (name_eq s.name s.name) (has_name s.name (names_at (map (λ (n : Standing). (line, n.name)) l))) (name_refl s.name)), each_standing v line l (λ x h. f x (true_behind (name_eq x s.name) h)))
@@ -229,55 +213,86 @@ placed s = map (λ (n : Standing). (s.0, n.name)) (in_act s.1)
 each_statement : (v : List (List ℕ)) (ss : List (At Act)) → ((x : List ℕ) → has_name x (names_at (flat_map placed ss)) ≡ true → has_name x v ≡ true) → Each (λ s. Each (λ n. has_name n.name v ≡ true) (in_act s.1)) ss
 each_statement v [] f = tt
 each_statement v (s ∷ ss) f =
-    let split : (x : List ℕ) → has_name x (names_at (placed s ++ flat_map placed ss)) ≡ (has_name x (names_at (placed s)) || has_name x (names_at (flat_map placed ss))) = λ x. ap (has_name x) (names_append (placed s) (flat_map placed ss)) ∙ has_append x (names_at (placed s)) (names_at (flat_map placed ss)) in
+    let split : (x : List ℕ) → has_name x (names_at (placed s ++ flat_map placed ss)) ≡ (has_name x (names_at (placed s)) || has_name x (names_at (flat_map placed ss))) = λ x. ap (has_name x) (map-append (λ (p : At Name). p.1) (placed s) (flat_map placed ss)) ∙ has-append x (names_at (placed s)) (names_at (flat_map placed ss)) in
     (each_standing v s.0 (in_act s.1) (λ x h. f x (split x ∙ true_front (has_name x (names_at (placed s))) (has_name x (names_at (flat_map placed ss))) h)), each_statement v ss (λ x h. f x (split x ∙ true_behind (has_name x (names_at (placed s))) h)))
 
 -- each name in its statements is a variable of the unit
 pub body_stands : (u : Procedure) → Each (λ s. Each (λ n. has_name n.name (variables u) ≡ true) (in_act s.1)) (statements u.body)
 body_stands u =
     each_statement (variables u) (statements u.body) (λ x h.
-    first_places-stand x (places u) ∙ ap (has_name x) (names_append (dummy_places u) (declared_places u ++ statement_places u)) ∙ has_append x (names_at (dummy_places u)) (names_at (declared_places u ++ statement_places u))
-    ∙ true_behind (has_name x (names_at (dummy_places u))) (ap (has_name x) (names_append (declared_places u) (statement_places u)) ∙ has_append x (names_at (declared_places u)) (names_at (statement_places u)) ∙ true_behind (has_name x (names_at (declared_places u))) h))
+    first_places-stand x (places u) ∙ ap (has_name x) (map-append (λ (p : At Name). p.1) (dummy_places u) (declared_places u ++ statement_places u)) ∙ has-append x (names_at (dummy_places u)) (names_at (declared_places u ++ statement_places u))
+    ∙ true_behind (has_name x (names_at (dummy_places u))) (ap (has_name x) (map-append (λ (p : At Name). p.1) (declared_places u) (statement_places u)) ∙ has-append x (names_at (declared_places u)) (names_at (statement_places u)) ∙ true_behind (has_name x (names_at (declared_places u))) h))
 
 -- and each name that is declared
 each_declared : (v : List (List ℕ)) (ds : List Declaration) → ((x : List ℕ) → has_name x (names_at (map (λ (d : Declaration). (d.line, d.name)) ds)) ≡ true → has_name x v ≡ true) → Each (λ d. has_name d.name v ≡ true) ds
 each_declared v [] f = tt
 each_declared v (d ∷ ds) f = (f d.name (true_front (name_eq d.name d.name) (has_name d.name (names_at (map (λ (e : Declaration). (e.line, e.name)) ds))) (name_refl d.name)), each_declared v ds (λ x h. f x (true_behind (name_eq x d.name) h)))
 
-declarations_stand : (u : Procedure) → Each (λ d. has_name d.name (variables u) ≡ true) u.declarations
+pub declarations_stand : (u : Procedure) → Each (λ d. has_name d.name (variables u) ≡ true) u.declarations
 declarations_stand u =
     each_declared (variables u) u.declarations (λ x h.
-    first_places-stand x (places u) ∙ ap (has_name x) (names_append (dummy_places u) (declared_places u ++ statement_places u)) ∙ has_append x (names_at (dummy_places u)) (names_at (declared_places u ++ statement_places u))
-    ∙ true_behind (has_name x (names_at (dummy_places u))) (ap (has_name x) (names_append (declared_places u) (statement_places u)) ∙ has_append x (names_at (declared_places u)) (names_at (statement_places u)) ∙ true_front (has_name x (names_at (declared_places u))) (has_name x (names_at (statement_places u))) h))
+    first_places-stand x (places u) ∙ ap (has_name x) (map-append (λ (p : At Name). p.1) (dummy_places u) (declared_places u ++ statement_places u)) ∙ has-append x (names_at (dummy_places u)) (names_at (declared_places u ++ statement_places u))
+    ∙ true_behind (has_name x (names_at (dummy_places u))) (ap (has_name x) (map-append (λ (p : At Name). p.1) (declared_places u) (statement_places u)) ∙ has-append x (names_at (declared_places u)) (names_at (statement_places u)) ∙ true_front (has_name x (names_at (declared_places u))) (has_name x (names_at (statement_places u))) h))
 
 -- ---- so a unit's text stays as it is under the names that it declares
 
-no_slot_in : (xs : List (List ℕ)) → NoSlots xs → (x : List ℕ) → has_name x xs ≡ true → is_slot (plain x) ≡ false
-no_slot_in [] h x k = absurd cc
-no_slot_in (y ∷ xs) h x k = go (name_eq x y) refl k (no_slot_in xs h.1 x)
-  where
-    go : (b : Bool) → name_eq x y ≡ b → (b || has_name x xs) ≡ true → (has_name x xs ≡ true → is_slot (plain x) ≡ false) → is_slot (plain x) ≡ false
-    go true e k r = ap (λ z. is_slot (plain z)) (name_same x y e) ∙ h.0
-    go false e k r = r k
+-- a name among extents stands among some names
+abbrev ExtentStands : List (List ℕ) → Extent → Type 0
+ExtentStands v (fixed z) = Unit {0}
+ExtentStands v (given x) = has_name x v ≡ true
 
-module _ (ps : List Shared) (s : Shared) (text : NoSlots (variables s.unit)) (slots : AllSlots (member_slots (members ps s))) where
-  name_stays : (y : List ℕ) → has_name y (variables s.unit) ≡ true → swapped (owned (members ps s)) y ≡ swapped (members ps s) y
-  name_stays y h =
-      stays (variables s.unit) (members ps s)
-      (from_new (variables s.unit) ps s (taken_in ps s) (λ z k. has_append z (variables s.unit) _ ∙ true_front (has_name z (variables s.unit)) _ k) _)
-      slots y h (no_slot_in (variables s.unit) text y h)
+each_extent : (v : List (List ℕ)) (es : List Extent) → ((x : List ℕ) → has_name x (extent_names es) ≡ true → has_name x v ≡ true) → Each (ExtentStands v) es
+each_extent v [] f = tt
+each_extent v (fixed z ∷ es) f = (tt, each_extent v es f)
+each_extent v (given y ∷ es) f = (f y (true_front (name_eq y y) (has_name y (extent_names es)) (name_refl y)), each_extent v es (λ x h. f x (true_behind (name_eq x y) h)))
+
+all_extents : (v : List (List ℕ)) (ds : List Declaration) → ((x : List ℕ) → has_name x (flat_map (λ (d : Declaration). extent_names d.extents) ds) ≡ true → has_name x v ≡ true) → Each (λ d. Each (ExtentStands v) d.extents) ds
+all_extents v [] f = tt
+all_extents v (d ∷ ds) f =
+    let rest : List (List ℕ) = flat_map (λ (e : Declaration). extent_names e.extents) ds in (
+      each_extent v d.extents (λ x h. f x (has-append x (extent_names d.extents) rest ∙ true_front (has_name x (extent_names d.extents)) (has_name x rest) h)),
+      all_extents v ds (λ x h. f x (has-append x (extent_names d.extents) rest ∙ true_behind (has_name x (extent_names d.extents)) h)),
+    )
+
+-- the names in a unit's statements begin with letters
+abbrev pub Said : Procedure → Type 0
+Said u = Each (λ a. Each (λ n. Begins n.name) (in_act a.1)) (statements u.body)
+
+both_said : (A B : Standing → Type 0) (ss : List (At Act)) → Each (λ a. Each A (in_act a.1)) ss → Each (λ a. Each B (in_act a.1)) ss → Each (λ a. Each (λ n. A n × B n) (in_act a.1)) ss
+both_said A B [] h k = tt
+both_said A B (a ∷ ss) h k = (each_zip A B (in_act a.1) h.0 k.0, both_said A B ss h.1 k.1)
+
+module _ (ps : List Shared) (s : Shared) (said : Said s.unit) (letters : HasLetters s) (slots : AllSlots (member_slots (members ps s))) where
+  name_stays : (y : List ℕ) → has_name y (names_in s) ≡ true → Begins y → swapped (owned (members ps s)) y ≡ swapped (members ps s) y
+  name_stays y h b =
+      stays (names_in s) (members ps s)
+      (from_new (names_in s) ps s (taken_in ps s) (λ z k. has-append z (names_in s) _ ∙ true_front (has_name z (names_in s)) _ k) _)
+      slots y h (no_slot y b)
+
+  of_variable : (y : List ℕ) → has_name y (variables s.unit) ≡ true → has_name y (names_in s) ≡ true
+  of_variable y h = has-append y (variables s.unit) _ ∙ true_front (has_name y (variables s.unit)) _ h
+
+  abbrev IsSaid : List ℕ → Type 0
+  IsSaid y = (has_name y (variables s.unit) ≡ true) × Begins y
 
   pub body_stays : EachIn (λ x. swap (owned (members ps s)) x ≡ swap (members ps s) x) s.unit.body
-  body_stays = of_code (variables s.unit) (λ x. swap (owned (members ps s)) x ≡ swap (members ps s) x) (λ y h. ap plain (name_stays y h)) (λ y. refl) (λ o k. refl) s.unit.body (body_stands s.unit)
+  body_stays =
+      of_code IsSaid (λ x. swap (owned (members ps s)) x ≡ swap (members ps s) x) (λ y h. ap plain (name_stays y (of_variable y h.0) h.1)) (λ y. refl) (λ o k. refl) s.unit.body
+      (both_said (λ n. has_name n.name (variables s.unit) ≡ true) (λ n. Begins n.name) (statements s.unit.body) (body_stands s.unit) said)
 
-  extents_stay : (es : List Extent) → Each (ExtentStands (variables s.unit)) es → map (swapped_extent (owned (members ps s))) es ≡ map (swapped_extent (members ps s)) es
-  extents_stay [] h = refl
-  extents_stay (fixed z ∷ es) h = ap (λ l. fixed z ∷ l) (extents_stay es h.1)
-  extents_stay (given x ∷ es) h = λ i. given (name_stays x h.0 i) ∷ extents_stay es h.1 i
+  extents_stay : (es : List Extent) → Each (ExtentStands (names_in s)) es → Each ExtentBegins es → map (swapped_extent (owned (members ps s))) es ≡ map (swapped_extent (members ps s)) es
+  extents_stay [] h k = refl
+  extents_stay (fixed z ∷ es) h k = ap (λ l. fixed z ∷ l) (extents_stay es h.1 k.1)
+  extents_stay (given x ∷ es) h k = λ i. given (name_stays x h.0 k.0 i) ∷ extents_stay es h.1 k.1 i
 
-  some_stay : (ds : List Declaration) → Each (λ d. has_name d.name (variables s.unit) ≡ true) ds → Each (λ d. Each (ExtentStands (variables s.unit)) d.extents) ds → Each (λ d. swapped_declaration (owned (members ps s)) d ≡ swapped_declaration (members ps s) d) ds
-  some_stay [] h k = tt
-  some_stay (d ∷ ds) h k = ((λ i. record d { name = name_stays d.name h.0 i; extents = extents_stay d.extents k.0 i }), some_stay ds h.1 k.1)
+  some_stay : (ds : List Declaration) → Each (λ d. has_name d.name (variables s.unit) ≡ true) ds → Each (λ d. Each (ExtentStands (names_in s)) d.extents) ds → Each BeginsDeclared ds → Each (λ d. swapped_declaration (owned (members ps s)) d ≡ swapped_declaration (members ps s) d) ds
+  some_stay [] h k l = tt
+  some_stay (d ∷ ds) h k l = ((λ i. record d { name = name_stays d.name (of_variable d.name h.0) l.0.0 i; extents = extents_stay d.extents k.0 l.0.1 i }), some_stay ds h.1 k.1 l.1)
 
-  pub declarations_stay : Each (λ d. Each (ExtentStands (variables s.unit)) d.extents) s.unit.declarations → Each (λ d. swapped_declaration (owned (members ps s)) d ≡ swapped_declaration (members ps s) d) s.unit.declarations
-  declarations_stay k = some_stay s.unit.declarations (declarations_stand s.unit) k
+  pub declarations_stay : Each (λ d. swapped_declaration (owned (members ps s)) d ≡ swapped_declaration (members ps s) d) s.unit.declarations
+  declarations_stay =
+      let extents : List (List ℕ) = flat_map (λ (d : Declaration). extent_names d.extents) s.unit.declarations in
+      some_stay s.unit.declarations (declarations_stand s.unit)
+      (all_extents (names_in s) s.unit.declarations (λ x h.
+      has-append x (variables s.unit) (item_names s.commons ++ extents) ∙ true_behind (has_name x (variables s.unit)) (has-append x (item_names s.commons) extents ∙ true_behind (has_name x (item_names s.commons)) h)))
+      letters.declared

@@ -5,10 +5,19 @@ use Rattle.adj_tree.specs.Code.{plain, name_eq, Extent, fixed, Declaration, Proc
 use Rattle.adj_tree.proofs.Names.{name_same}
 use Rattle.def_meaning.specs.Apart.{has_name}
 use Rattle.def_meaning.specs.Units.{declared, shape_of, shape_fits}
-use Rattle.law_common.specs.Blocks.{Common, Shared, first_declaring}
-use Rattle.law_common.specs.Members.{is_slot, slot_name, Member, member_slots, own_items, own_members, found_members, block_members}
+use Rattle.adj_tree.specs.Common.{Common, Shared}
+use Rattle.def_common.specs.Blocks.{first_declaring}
+use Rattle.def_common.specs.Members.{is_slot, slot_name, Member, member_slots, own_items, own_members, found_members, block_members}
 use Rattle.law_common.specs.Passing.{AllSlots}
 use Rattle.law_common.specs.Lowers.{Each, literals, IsLaidOut}
+
+pub true_front : (a b : Bool) → a ≡ true → (a || b) ≡ true
+true_front true b e = refl
+true_front false b e = absurd cc
+
+pub true_behind : {a : Bool} (b : Bool) → a ≡ true → (b || a) ≡ true
+true_behind true h = refl
+true_behind false h = h
 
 pub each_append : {A : Type 0} (P : A → Type 0) (l k : List A) → Each P l → Each P k → Each P (l ++ k)
 each_append P [] k h j = j
@@ -25,6 +34,14 @@ each_behind P (a ∷ l) k h = each_behind P l k h.1
 pub each_map : {A : Type 0} (P Q : A → Type 0) → ((a : A) → P a → Q a) → (l : List A) → Each P l → Each Q l
 each_map P Q f [] h = tt
 each_map P Q f (a ∷ l) h = (f a h.0, each_map P Q f l h.1)
+
+pub each_of_map : {A B : Type 0} (P : B → Type 0) (f : A → B) (l : List A) → Each P (map f l) → Each (λ a. P (f a)) l
+each_of_map P f [] h = tt
+each_of_map P f (a ∷ l) h = (h.0, each_of_map P f l h.1)
+
+pub each_zip : {A : Type 0} (P Q : A → Type 0) (l : List A) → Each P l → Each Q l → Each (λ a. P a × Q a) l
+each_zip P Q [] h k = tt
+each_zip P Q (a ∷ l) h k = ((h.0, k.0), each_zip P Q l h.1 k.1)
 
 -- ---- lookups
 

@@ -13,4 +13,17 @@ pub mod Slotted
 pub mod Freshness
 pub mod Literal
 pub mod Using
+pub mod Faults
+pub mod Declared
+pub mod Letters
+pub mod Named
+pub mod Said
+pub mod Separate
+pub mod Handed
+pub mod Calls
+pub mod Fitting
 pub mod Accepted
+pub mod EachMember
+pub mod LoweredCalls
+pub mod LoweredWritten
+pub mod EachRuleWorked

@@ -1,18 +1,20 @@
 -- Where all layouts of a block are equal, they are literal.
 use Rattle.std.proofs.Common.{◌≡◌, ℕ, suc, ◌+◌, Bool, true, false, List, [], ◌∷◌, ◌++◌, map, refl, ap, subst, if◌then◌else◌}
+use Rattle.std.proofs.lemmas.List.{map-append}
 use Rattle.std.specs.Prelude.{◌||◌, ◌==◌, length, Some, None}
 use Rattle.adj_tree.specs.Code.{name_eq, Extent, fixed, given, Declaration, Procedure}
 use Rattle.def_meaning.specs.Apart.{has_name}
 use Rattle.def_meaning.specs.Units.{shape_of, shape_fits}
-use Rattle.law_common.specs.Blocks.{Common, Shared, items_of, extents_in, declares, layout, blocks, first_declaring, uses, used_blocks}
-use Rattle.law_common.specs.Members.{Member, own_items, own_members, found_members, block_members}
+use Rattle.adj_tree.specs.Common.{Common, Shared}
+use Rattle.def_common.specs.Blocks.{items_of, extents_in, declares, layout, blocks, first_declaring, uses, used_blocks}
+use Rattle.def_common.specs.Members.{Member, own_items, own_members, found_members, block_members}
 use Rattle.law_common.specs.Lowers.{Each, literals, IsLaidOut}
-use Rattle.law_common.specs.Refused.{is_same_extent, first_layout, layout_refusal}
+use Rattle.def_common.specs.Refused.{is_same_extent, first_layout, layout_refusal}
 use Rattle.law_common.proofs.Laying.{each_append, each_front, each_behind}
 use Rattle.law_common.proofs.Refused.{laid_alike}
 use Rattle.law_common.proofs.Slotted.{chosen_among}
 
-abbrev IsLiteral : List Extent → Type 0
+abbrev pub IsLiteral : List Extent → Type 0
 IsLiteral es = Each (λ e. is_same_extent e e ≡ true) es
 
 literal : (es : List Extent) → IsLiteral es → es ≡ map fixed (literals es)
@@ -24,10 +26,6 @@ items_literal : (u : Procedure) (b : List ℕ) (line i : ℕ) (ds : List Declara
 items_literal u b line i [] h = tt
 items_literal u b line i (d ∷ ds) h = (h.0, items_literal u b line (suc i) ds h.1)
 
-map_append : (u : Procedure) (l k : List Declaration) → map (extents_in u) (l ++ k) ≡ map (extents_in u) l ++ map (extents_in u) k
-map_append u [] k = refl
-map_append u (d ∷ l) k = ap (λ z. extents_in u d ∷ z) (map_append u l k)
-
 own_literal : (u : Procedure) (b : List ℕ) (i : ℕ) (cs : List Common) → Each IsLiteral (map (extents_in u) (items_of b cs)) → Each (λ m. IsLiteral m.extents) (own_members u b i cs)
 own_literal u b i [] h = tt
 own_literal u b i (c ∷ cs) h = go (name_eq c.block b) h (own_literal u b (i + length c.items) cs) (own_literal u b i cs)
@@ -35,7 +33,7 @@ own_literal u b i (c ∷ cs) h = go (name_eq c.block b) h (own_literal u b (i + 
     go : (p : Bool) → Each IsLiteral (map (extents_in u) (if p then c.items ++ items_of b cs else items_of b cs)) → (Each IsLiteral (map (extents_in u) (items_of b cs)) → Each (λ m. IsLiteral m.extents) (own_members u b (i + length c.items) cs)) → (Each IsLiteral (map (extents_in u) (items_of b cs)) → Each (λ m. IsLiteral m.extents) (own_members u b i cs)) →
         Each (λ m. IsLiteral m.extents) (if p then own_items u b c.line i c.items ++ own_members u b (i + length c.items) cs else own_members u b i cs)
     go true h f g =
-        let k = subst (Each IsLiteral) (map_append u c.items (items_of b cs)) h in
+        let k = subst (Each IsLiteral) (map-append (extents_in u) c.items (items_of b cs)) h in
         each_append (λ m. IsLiteral m.extents) (own_items u b c.line i c.items) (own_members u b (i + length c.items) cs)
         (items_literal u b c.line i c.items (each_front IsLiteral (map (extents_in u) c.items) (map (extents_in u) (items_of b cs)) k)) (f (each_behind IsLiteral (map (extents_in u) c.items) (map (extents_in u) (items_of b cs)) k))
     go false h f g = g h
@@ -48,7 +46,7 @@ first_literal ps b (s ∷ l) h = go (declares b s) refl (first_literal ps b l h.
     go true e r = own_literal s.unit b 1 s.commons (h.0 e).1
     go false e r = r
 
-blocks_literal : (ps : List Shared) → layout_refusal ps ≡ None → (bs : List (List ℕ)) → Each (λ b. has_name b (blocks ps) ≡ true) bs → Each (λ m. IsLiteral m.extents) (block_members ps bs)
+pub blocks_literal : (ps : List Shared) → layout_refusal ps ≡ None → (bs : List (List ℕ)) → Each (λ b. has_name b (blocks ps) ≡ true) bs → Each (λ m. IsLiteral m.extents) (block_members ps bs)
 blocks_literal ps h [] k = tt
 blocks_literal ps h (b ∷ bs) k = each_append (λ m. IsLiteral m.extents) (found_members b (first_declaring b ps)) (block_members ps bs) (first_literal ps b ps (laid_alike ps h b k.0)) (blocks_literal ps h bs k.1)
 

@@ -9,15 +9,17 @@ use Rattle.def_meaning.specs.Rename.{rename_term, rename_terms, rename_act, rena
 use Rattle.def_meaning.specs.Seen.{Separates}
 use Rattle.def_meaning.proofs.Booleans.{or_false}
 use Rattle.def_meaning.proofs.Variables.{name_comm}
-use Rattle.law_common.specs.Blocks.{Shared, used_blocks}
-use Rattle.law_common.specs.Members.{Member, member_names, member_slots, block_members, slots_for, members, owned, swapped, swap, swapped_extent, swapped_declaration}
-use Rattle.law_common.specs.Slots.{slot_declarations, shared_unit}
-use Rattle.law_common.specs.Passing.{behind, passed_act, passed, passed_unit}
-use Rattle.law_common.specs.Lowering.{item_extents, with_extents, is_declared_so, new_declarations, lowered_act, lowered, lowered_unit}
+use Rattle.adj_tree.specs.Common.{Shared}
+use Rattle.def_common.specs.Blocks.{used_blocks}
+use Rattle.def_common.specs.Members.{Member, member_names, member_slots, block_members, slots_for, names_of_blocks, members, owned, swapped, swap, swapped_extent, swapped_declaration}
+use Rattle.def_common.specs.Slots.{slot_declarations, shared_unit}
+use Rattle.def_common.specs.Lowering.{behind}
+use Rattle.law_common.specs.Passing.{passed_act, passed, passed_unit, EachCall', EachCall}
+use Rattle.def_common.specs.Lowering.{item_extents, with_extents, is_declared_so, new_declarations, lowered_act, lowered, lowered_unit}
 use Rattle.law_common.specs.Renaming.{AreNewNames, AreNewExtents, IsRenamed}
-use Rattle.law_common.specs.Lowers.{Each, EachInAct, EachIn, LowersUnit}
+use Rattle.law_common.specs.Lowers.{Each, EachInAct, EachIn, RenamesUnit}
 use Rattle.law_common.proofs.Swapping.{test_agrees, one_agrees, terms_agree, runtime_agrees, mark_agrees, swap_separates, swapped_twice, Apart, name_at, slot_at}
-use Rattle.law_common.proofs.Laying.{declared_names, declared_front, declared_behind, laid_names, slots_laid, slot_extents}
+use Rattle.law_common.proofs.Laying.{declared_names, declared_front, declared_behind, laid_names, slots_laid, slot_extents, each_map}
 
 -- ---- dummies
 
@@ -63,7 +65,7 @@ each_there (m ∷ ms) = (ap (λ b. b || has_name m.name (member_names ms)) (name
     go (x ∷ l) h = (one (name_eq x.name m.name) h.0, go l h.1)
 
 -- each member's name becomes its slot
-to_slots : (ms : List Member) → AreApart (member_names ms ++ member_slots ms) → Each (λ m. swapped ms m.name ≡ m.slot) ms
+pub to_slots : (ms : List Member) → AreApart (member_names ms ++ member_slots ms) → Each (λ m. swapped ms m.name ≡ m.slot) ms
 to_slots [] h = tt
 to_slots (m ∷ ms) h = (ap (λ b. if b then m.slot else (if name_eq m.slot m.name then m.name else swapped ms m.name)) (name_refl m.name), go ms (others_apart m ms h (each_there ms)) (to_slots ms (rest (member_names ms) h.1)))
   where
@@ -87,10 +89,6 @@ new_dummies : (r : Var → Var) (own es ds : List (List ℕ)) → Each (λ d. r 
 new_dummies r [] es ds h k = k
 new_dummies r (d ∷ own) es ds h k = (h.0, new_dummies r own es ds h.1 k)
 
-each_to : {A : Type 0} (P Q : A → Type 0) → ((a : A) → P a → Q a) → (l : List A) → Each P l → Each Q l
-each_to P Q f [] h = tt
-each_to P Q f (a ∷ l) h = (f a h.0, each_to P Q f l h.1)
-
 -- ---- bodies
 
 module _ (ps : List Shared) (ms : List Member) (apart : AreApart (member_names ms ++ member_slots ms)) where
@@ -105,19 +103,23 @@ module _ (ps : List Shared) (ms : List Member) (apart : AreApart (member_names m
   abbrev Stays : Var → Type 0
   Stays x = swap (owned ms) x ≡ swap ms x
 
-  mutual
-    act_back : (a : Act) → EachInAct Stays a → passed_act (slots_for ps) (rename_act (swap (owned ms)) a) ≡ rename_act (swap ms) (lowered_act ps ms a)
-    act_back (assign x subs e) h = λ i. assign (h.0 i) (terms_agree (swap (owned ms)) (swap ms) subs h.1.0 i) (one_agrees (swap (owned ms)) (swap ms) e h.1.1 i)
-    act_back (choose c a b) h = λ i. choose (test_agrees (swap (owned ms)) (swap ms) c h.0 i) (body_back a h.1.0 i) (body_back b h.1.1 i)
-    act_back (loop x first last by body m) h =
-        λ i. loop (h.0 i) (one_agrees (swap (owned ms)) (swap ms) first h.1.0 i) (one_agrees (swap (owned ms)) (swap ms) last h.1.1.0 i) (one_agrees (swap (owned ms)) (swap ms) by h.1.1.1.0 i) (body_back body h.1.1.1.1.0 i) (mark_agrees (swap (owned ms)) (swap ms) m h.1.1.1.1.1 i)
-    act_back (during c body) h = λ i. during (test_agrees (swap (owned ms)) (swap ms) c h.0 i) (body_back body h.1 i)
-    act_back (call name args) h = ap (call name) (ap (λ l. behind l (slots_for ps name)) (terms_agree (swap (owned ms)) (swap ms) args h) ∙ behind_back args (slots_for ps name))
-    act_back (runtime c) h = ap runtime (runtime_agrees (swap (owned ms)) (swap ms) c h)
+  -- a call passes the members that stand for slots
+  abbrev Handed : List ℕ → Terms → Type 0
+  Handed name args = names_of_blocks ms (used_blocks ps name) ≡ map (swapped ms) (slots_for ps name)
 
-    pub body_back : (c : Code) → EachIn Stays c → passed (slots_for ps) (rename (swap (owned ms)) c) ≡ rename (swap ms) (lowered ps ms c)
-    body_back stop h = refl
-    body_back (step line a rest) h = λ i. step line (act_back a h.0 i) (body_back rest h.1 i)
+  mutual
+    act_back : (a : Act) → EachInAct Stays a → EachCall' Handed a → passed_act (slots_for ps) (rename_act (swap (owned ms)) a) ≡ rename_act (swap ms) (lowered_act ps ms a)
+    act_back (assign x subs e) h k = λ i. assign (h.0 i) (terms_agree (swap (owned ms)) (swap ms) subs h.1.0 i) (one_agrees (swap (owned ms)) (swap ms) e h.1.1 i)
+    act_back (choose c a b) h k = λ i. choose (test_agrees (swap (owned ms)) (swap ms) c h.0 i) (body_back a h.1.0 k.0 i) (body_back b h.1.1 k.1 i)
+    act_back (loop x first last by body m) h k =
+        λ i. loop (h.0 i) (one_agrees (swap (owned ms)) (swap ms) first h.1.0 i) (one_agrees (swap (owned ms)) (swap ms) last h.1.1.0 i) (one_agrees (swap (owned ms)) (swap ms) by h.1.1.1.0 i) (body_back body h.1.1.1.1.0 k i) (mark_agrees (swap (owned ms)) (swap ms) m h.1.1.1.1.1 i)
+    act_back (during c body) h k = λ i. during (test_agrees (swap (owned ms)) (swap ms) c h.0 i) (body_back body h.1 k i)
+    act_back (call name args) h k = ap (call name) (ap (λ l. behind l (slots_for ps name)) (terms_agree (swap (owned ms)) (swap ms) args h) ∙ behind_back args (slots_for ps name) ∙ ap (λ l. rename_terms (swap ms) (behind args l)) (sym k))
+    act_back (runtime c) h k = ap runtime (runtime_agrees (swap (owned ms)) (swap ms) c h)
+
+    pub body_back : (c : Code) → EachIn Stays c → EachCall Handed c → passed (slots_for ps) (rename (swap (owned ms)) c) ≡ rename (swap ms) (lowered ps ms c)
+    body_back stop h k = refl
+    body_back (step line a rest) h k = λ i. step line (act_back a h.0 k.0 i) (body_back rest h.1 k.1 i)
 
 -- ---- declarations
 
@@ -131,11 +133,11 @@ declared_renamed ms sep (d ∷ ds) x =
     go true r = refl
     go false r = r
 
-no_item : (ms : List Member) (x : List ℕ) → has_name x (member_names ms) ≡ false → item_extents ms x ≡ []
+pub no_item : (ms : List Member) (x : List ℕ) → has_name x (member_names ms) ≡ false → item_extents ms x ≡ []
 no_item [] x h = refl
-no_item (m ∷ ms) x h = let p = or_false (name_eq x m.name) (has_name x (member_names ms)) h in ap (λ b. if b then m.extents else item_extents ms x) (name_comm x m.name p.0) ∙ no_item ms x p.1
+no_item (m ∷ ms) x h = let p = or_false (name_eq x m.name) (has_name x (member_names ms)) h in ap (λ b. if b then m.item else item_extents ms x) (name_comm x m.name p.0) ∙ no_item ms x p.1
 
-none_new : (u : Procedure) (ms : List Member) (x : List ℕ) → has_name x (member_names ms) ≡ false → declared (new_declarations u ms) (plain x) ≡ []
+pub none_new : (u : Procedure) (ms : List Member) (x : List ℕ) → has_name x (member_names ms) ≡ false → declared (new_declarations u ms) (plain x) ≡ []
 none_new u [] x h = refl
 none_new u (m ∷ ms) x h = go (is_declared_so u m) (or_false (name_eq x m.name) (has_name x (member_names ms)) h).0 (none_new u ms x (or_false (name_eq x m.name) (has_name x (member_names ms)) h).1)
   where
@@ -182,7 +184,7 @@ declared_helper : (ds : List Declaration) (o : _) (k : ℕ) → declared ds (hel
 declared_helper [] o k = refl
 declared_helper (d ∷ ds) o k = declared_helper ds o k
 
-module _ (ps : List Shared) (s : Shared) (h : LowersUnit ps s) where
+module _ (ps : List Shared) (s : Shared) (h : RenamesUnit ps s) where
   abbrev ms : List Member
   ms = members ps s
 
@@ -232,8 +234,8 @@ module _ (ps : List Shared) (s : Shared) (h : LowersUnit ps s) where
     name = refl;
     dummies =
         subst (λ l. AreNewNames (swap ms) (s.unit.dummies ++ l) (s.unit.dummies ++ member_names ms)) h.slots
-        (new_dummies (swap ms) s.unit.dummies (member_slots ms) (member_names ms) (each_to _ _ (λ d p. ap plain p.0) s.unit.dummies h.dummies)
-        (new_members (swap ms) ms (each_to _ _ (λ m p. ap plain p) ms (to_slots ms h.apart))));
+        (new_dummies (swap ms) s.unit.dummies (member_slots ms) (member_names ms) (each_map _ _ (λ d p. ap plain p.0) s.unit.dummies h.dummies)
+        (new_members (swap ms) ms (each_map _ _ (λ m p. ap plain p) ms (to_slots ms h.apart))));
     declares = alike;
-    body = body_back ps ms h.apart s.unit.body h.body;
+    body = body_back ps ms h.apart s.unit.body h.body h.handed;
   }

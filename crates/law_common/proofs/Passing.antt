@@ -19,9 +19,10 @@ use Rattle.law_meaning.proofs.Inversions.{then_ok_is}
 use Rattle.law_meaning.proofs.Frames.{is_in, place_in, keeps_dummies}
 use Rattle.law_meaning.proofs.WriteSets.{handed_written}
 use Rattle.def_names.specs.Standing.{count_of}
-use Rattle.law_common.specs.Members.{is_slot}
-use Rattle.law_common.specs.Slots.{with_slots, call_in_blocks, calls_with_blocks, run_in_slots}
-use Rattle.law_common.specs.Passing.{behind, SlotsOf, passed_act, passed, passed_unit, passed_units, EachCall', EachCall, AllSlots, NoSlots, CallFits, HasSlots}
+use Rattle.def_common.specs.Members.{is_slot}
+use Rattle.def_common.specs.Slots.{with_slots, call_in_blocks, calls_with_blocks, run_in_slots}
+use Rattle.def_common.specs.Lowering.{behind}
+use Rattle.law_common.specs.Passing.{SlotsOf, passed_act, passed, passed_unit, passed_units, EachCall', EachCall, AllSlots, NoSlots, CallFits, HasSlots}
 use Rattle.law_common.proofs.Written.{passed_found, find_passed, written_same}
 
 -- ---- statements
@@ -373,10 +374,10 @@ module _ {C : Type 0} (units : List Procedure) (own sl : SlotsOf) (extents : Lis
       to got = to_with (entry_store n.numbers v.dummies got) got
 
       parts : u.dummies ≡ own name ++ sl name
-      parts = has.parts name u e
+      parts = has.parts.dummies name u e
 
       slots_are : (t z : Store C) → with_slots u t z ≡ mixed (sl name) t z
-      slots_are t z = λ i x j. if (ap (λ l. is_slot x && is_named l x) parts ∙ slots_among (own name) (sl name) (has.owns name) (has.slots name) x) i then t x j else z x j
+      slots_are t z = λ i x j. if (ap (λ l. is_slot x && is_named l x) parts ∙ slots_among (own name) (sl name) (has.parts.owns name) (has.parts.slots name) x) i then t x j else z x j
 
       at : (got : List (Actual C)) → actuals n args s.store ≡ Ok got → from got ≡ to (got ++ wholes n s.store (sl name))
       at got q =
@@ -398,7 +399,7 @@ module _ {C : Type 0} (units : List Procedure) (own sl : SlotsOf) (extents : Lis
           start_same =
               slots_are s.store (entry_store n.numbers u.dummies got)
               ∙ ap (λ l. mixed (sl name) s.store (entry_store n.numbers l got)) parts
-              ∙ (λ i x j. entry_same n s.store w (own name) (sl name) got (has.owns name) (has.slots name) is_placed x j i)
+              ∙ (λ i x j. entry_same n s.store w (own name) (sl name) got (has.parts.owns name) (has.parts.slots name) is_placed x j i)
               ∙ ap (λ l. entry_store n.numbers l (got ++ wholes n s.store (sl name))) (sym parts)
 
           one_fits : (x : List ℕ) → has_name x (sl name) ≡ true → (length (declared u.declarations (plain x)) == 0 || shape_fits (extents_of n.numbers u start (plain x)) (n.shape (plain x))) ≡ true
@@ -419,7 +420,7 @@ module _ {C : Type 0} (units : List Procedure) (own sl : SlotsOf) (extents : Lis
           after_same : (s1 : Scene C) (j : ℕ) → unit_run (calls_of (passed_units sl units) depth) n v line (record s { store = start }) k ≡ Done s1 j → copied_out u.dummies (handed_back units name) got s1.store (with_slots u s1.store s.store) ≡ copied_out u.dummies (handed_back (passed_units sl units) name) (got ++ wholes n s.store (sl name)) s1.store s.store
           after_same s1 j d =
               (λ i. copied_out (parts i) (back i) got s1.store (slots_are s1.store s.store i))
-              ∙ out_same n s.store w w' (written_same units own sl extents has name u e) (own name) (sl name) (has.owns name) got is_placed s1.store s.store
+              ∙ out_same n s.store w w' (written_same units own sl has.parts name u e) (own name) (sl name) (has.parts.owns name) got is_placed s1.store s.store
               (λ x h f m. keeps_dummies (passed_units sl units) v x f depth n line (record s { store = start }) s1 k j d m ∙ handed_in x h m)
               ∙ (λ i. copied_out (sym parts i) (sym back' i) (got ++ wholes n s.store (sl name)) s1.store s.store)
 

@@ -9,10 +9,13 @@ use Rattle.def_meaning.specs.Apart.{has_name}
 use Rattle.def_meaning.proofs.Booleans.{and_true}
 use Rattle.def_names.specs.Fault.{fault}
 use Rattle.def_names.specs.Laws.{IsIn}
-use Rattle.law_common.specs.Blocks.{Shared, declares, layout, blocks}
+use Rattle.adj_tree.specs.Common.{Shared}
+use Rattle.def_common.specs.Blocks.{declares, layout, blocks}
 use Rattle.law_common.specs.Lowers.{Each}
-use Rattle.law_common.specs.Refused.{is_same_extent, are_same_extents, is_same_layout, first_layout, is_odd, find_odd, last_line, odd_fault, faults_in, layout_faults, RefusedAtPlaces, LaidAlike}
+use Rattle.def_common.specs.Refused.{is_same_extent, are_same_extents, is_same_layout, first_layout, is_odd, find_odd, last_line, odd_fault, faults_in, layout_faults}
+use Rattle.law_common.specs.Refused.{RefusedAtPlaces, LaidAlike}
 use Rattle.def_names.proofs.Order.{no_first}
+use Rattle.law_common.proofs.Laying.{true_behind}
 
 -- ---- in lists
 
@@ -43,10 +46,6 @@ record OfBlock (ps : List Shared) (bs : List (List ℕ)) (r : Refusal) : Type 0 
   pub among : has_name block bs ≡ true
   pub first : find_odd (is_odd ps block) ps ≡ Some unit
   pub is : r ≡ fault 26 (last_line block unit.unit.line unit.commons)
-
-true_behind : {a : Bool} (b : Bool) → a ≡ true → (b || a) ≡ true
-true_behind true h = refl
-true_behind false h = h
 
 of_block : (ps : List Shared) (bs : List (List ℕ)) (r : Refusal) → IsIn r (faults_in ps bs) → OfBlock ps bs r
 of_block ps [] r h = absurd h

@@ -34,7 +34,7 @@ module _ (f : Dummies) (r : Var → Var) (sep : Separates r) where
   renamed_place v (power_of a b) = refl
   renamed_place v (abs a) = refl
 
-  renamed_back : (v : Var) (ws : List Bool) (args : Terms) → is_handed_back (r v) ws (rename_terms r args) ≡ is_handed_back v ws args
+  pub renamed_back : (v : Var) (ws : List Bool) (args : Terms) → is_handed_back (r v) ws (rename_terms r args) ≡ is_handed_back v ws args
   renamed_back v [] args = refl
   renamed_back v (w ∷ ws) none = refl
   renamed_back v (w ∷ ws) (more e es) = λ i. (w && renamed_place v e i) || renamed_back v ws es i

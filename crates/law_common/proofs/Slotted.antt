@@ -1,15 +1,17 @@
 -- Where all layouts of a block are equal, each unit has a member for each slot of the blocks that it uses.
 use Rattle.std.proofs.Common.{◌≡◌, ℕ, zero, suc, ◌+◌, Bool, true, false, List, [], ◌∷◌, ◌++◌, refl, sym, ap, ◌∙◌, arith, if◌then◌else◌}
-use Rattle.std.proofs.lemmas.List.{length-map}
+use Rattle.std.proofs.lemmas.List.{length-map, length-append}
 use Rattle.std.specs.Prelude.{length, ◌||◌, Option, Some, None}
 use Rattle.adj_tree.specs.Code.{name_eq, Declaration, Procedure}
 use Rattle.adj_tree.proofs.Names.{name_refl}
 use Rattle.def_meaning.specs.Apart.{has_name}
 use Rattle.def_names.specs.Fresh.{fresh}
-use Rattle.law_common.specs.Blocks.{Common, Shared, items_of, extents_in, declares, layout, blocks, first_declaring, uses, chosen, used_blocks}
-use Rattle.law_common.specs.Members.{slot_name, Member, member_names, member_slots, own_items, own_members, found_members, block_members, slots_for, passed_members, members_from, members, taken_in}
+use Rattle.adj_tree.specs.Common.{Common, Shared}
+use Rattle.def_common.specs.Blocks.{items_of, extents_in, declares, layout, blocks, first_declaring, uses, chosen, used_blocks}
+use Rattle.def_common.specs.Members.{slot_name, Member, member_names, member_slots, own_items, own_members, found_members, block_members, slots_for, passed_members, members_from, members, taken_in}
 use Rattle.law_common.specs.Lowers.{Each}
-use Rattle.law_common.specs.Refused.{is_same_extent, found_layout, first_layout, layout_refusal, AMemberForEach}
+use Rattle.def_common.specs.Refused.{is_same_extent, found_layout, first_layout, layout_refusal}
+use Rattle.law_common.specs.Refused.{AMemberForEach}
 use Rattle.law_common.proofs.Refused.{laid_alike}
 use Rattle.law_common.proofs.Keeping.{each_found}
 
@@ -32,10 +34,6 @@ pub slots_append : (l k : List Member) → member_slots (l ++ k) ≡ member_slot
 slots_append [] k = refl
 slots_append (m ∷ l) k = ap (λ z. m.slot ∷ z) (slots_append l k)
 
-length_append : (l k : List Declaration) → length (l ++ k) ≡ length l + length k
-length_append [] k = let e : length k ≡ 0 + length k = omega arith in e
-length_append (d ∷ l) k = let r : length (l ++ k) ≡ length l + length k = length_append l k in let e : suc (length (l ++ k)) ≡ suc (length l) + length k = omega arith in e
-
 item_slots : (u : Procedure) (b : List ℕ) (line i : ℕ) (ds : List Declaration) → member_slots (own_items u b line i ds) ≡ numbered b i (length ds)
 item_slots u b line i [] = refl
 item_slots u b line i (d ∷ ds) = ap (λ l. slot_name b i ∷ l) (item_slots u b line (suc i) ds)
@@ -49,14 +47,14 @@ own_slots u b i (c ∷ cs) = go (name_eq c.block b) (own_slots u b (i + length c
         slots_append (own_items u b c.line i c.items) (own_members u b (i + length c.items) cs)
         ∙ (λ z. item_slots u b c.line i c.items z ++ e z)
         ∙ sym (numbered_append b i (length c.items) (length (items_of b cs)))
-        ∙ ap (numbered b i) (sym (length_append c.items (items_of b cs)))
+        ∙ ap (numbered b i) (sym (length-append c.items (items_of b cs)))
     go false e f = f
 
 pub first_slots : (b : List ℕ) (o : Option Shared) → member_slots (found_members b o) ≡ numbered b 1 (length (found_layout b o))
 first_slots b None = refl
 first_slots b (Some s) = own_slots s.unit b 1 s.commons ∙ ap (numbered b 1) (sym (length-map (items_of b s.commons) (extents_in s.unit)))
 
-passed_slots : (line : ℕ) (taken : List (List ℕ)) (ms : List Member) → member_slots (passed_members line taken ms) ≡ member_slots ms
+pub passed_slots : (line : ℕ) (taken : List (List ℕ)) (ms : List Member) → member_slots (passed_members line taken ms) ≡ member_slots ms
 passed_slots line taken [] = refl
 passed_slots line taken (m ∷ ms) = ap (λ l. m.slot ∷ l) (passed_slots line (fresh m.name taken ∷ taken) ms)
 
@@ -81,21 +79,21 @@ chosen_among f (b ∷ bs) = go (f b) (each_more b bs (chosen f bs) (chosen_among
     go false h = h
 
 module _ (ps : List Shared) (s : Shared) (alike : (b : List ℕ) → has_name b (blocks ps) ≡ true → declares b s ≡ true → layout b s ≡ first_layout ps b) where
+  pub own_slots_same : (b : List ℕ) → has_name b (blocks ps) ≡ true → declares b s ≡ true → member_slots (own_members s.unit b 1 s.commons) ≡ member_slots (found_members b (first_declaring b ps))
+  own_slots_same b h d =
+      own_slots s.unit b 1 s.commons ∙ ap (numbered b 1) (sym (length-map (items_of b s.commons) (extents_in s.unit)) ∙ ap length (alike b h d)) ∙ sym (first_slots b (first_declaring b ps))
+
   pub from_slots : (bs : List (List ℕ)) → Each (λ b. has_name b (blocks ps) ≡ true) bs → (taken : List (List ℕ)) → member_slots (members_from ps s taken bs) ≡ member_slots (block_members ps bs)
   from_slots [] h taken = refl
   from_slots (b ∷ bs) h taken = go (declares b s) refl (λ t. from_slots bs h.1 t)
     where
-      own : declares b s ≡ true → member_slots (own_members s.unit b 1 s.commons) ≡ member_slots (found_members b (first_declaring b ps))
-      own d =
-          own_slots s.unit b 1 s.commons ∙ ap (numbered b 1) (sym (length-map (items_of b s.commons) (extents_in s.unit)) ∙ ap length (alike b h.0 d)) ∙ sym (first_slots b (first_declaring b ps))
-
       join : (l : List Member) (t : List (List ℕ)) → member_slots l ≡ member_slots (found_members b (first_declaring b ps)) → member_slots (members_from ps s t bs) ≡ member_slots (block_members ps bs) → member_slots (l ++ members_from ps s t bs) ≡ member_slots (found_members b (first_declaring b ps) ++ block_members ps bs)
       join l t e f = slots_append l (members_from ps s t bs) ∙ (λ i. e i ++ f i) ∙ sym (slots_append (found_members b (first_declaring b ps)) (block_members ps bs))
 
       go : (p : Bool) → declares b s ≡ p → ((t : List (List ℕ)) → member_slots (members_from ps s t bs) ≡ member_slots (block_members ps bs)) →
           (let ms = if p then own_members s.unit b 1 s.commons else passed_members s.unit.line taken (found_members b (first_declaring b ps)) in
           member_slots (ms ++ members_from ps s (member_names ms ++ taken) bs)) ≡ member_slots (found_members b (first_declaring b ps) ++ block_members ps bs)
-      go true d r = let ms = own_members s.unit b 1 s.commons in join ms (member_names ms ++ taken) (own d) (r (member_names ms ++ taken))
+      go true d r = let ms = own_members s.unit b 1 s.commons in join ms (member_names ms ++ taken) (own_slots_same b h.0 d) (r (member_names ms ++ taken))
       go false d r = let ms = passed_members s.unit.line taken (found_members b (first_declaring b ps)) in join ms (member_names ms ++ taken) (passed_slots s.unit.line taken (found_members b (first_declaring b ps))) (r (member_names ms ++ taken))
 
 pub a_member_for_each : AMemberForEach

@@ -8,8 +8,9 @@ use Rattle.def_meaning.specs.Rename.{rename_term, rename_terms, rename_test, ren
 use Rattle.def_meaning.specs.Seen.{Separates}
 use Rattle.def_meaning.proofs.Booleans.{or_false}
 use Rattle.def_meaning.proofs.Variables.{name_comm, var_refl, var_same}
-use Rattle.law_common.specs.Members.{Member, member_names, member_slots, swapped, swap}
+use Rattle.def_common.specs.Members.{Member, member_names, member_slots, swapped, swap}
 use Rattle.law_common.specs.Lowers.{Each, EachInTerm, EachInTerms, EachInTest, EachInRuntime, EachInMark}
+use Rattle.law_common.proofs.Laying.{true_behind}
 
 -- ---- two renamings that agree on the variables of some code
 
@@ -175,10 +176,6 @@ pub record Named (P : Member → Type 0) (ms : List Member) (x : List ℕ) : Typ
   pub name : member.name ≡ x
   pub slot : swapped ms x ≡ member.slot
   pub among : has_name member.slot (member_slots ms) ≡ true
-
-true_behind : {a : Bool} (b : Bool) → a ≡ true → (b || a) ≡ true
-true_behind true h = refl
-true_behind false h = h
 
 clash : (x y : List ℕ) (xs : List (List ℕ)) → name_eq y x ≡ true → has_name x xs ≡ true → has_name y xs ≡ false → ⊥
 clash x y xs e h k = let z : true ≡ false = sym h ∙ ap (λ z. has_name z xs) (sym (name_same y x e)) ∙ k in cc

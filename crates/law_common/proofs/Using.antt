@@ -7,12 +7,13 @@ use Rattle.def_meaning.specs.Apart.{has_name}
 use Rattle.def_meaning.specs.Written.{find_unit, is_handed_back, handed_back}
 use Rattle.def_meaning.specs.Rename.{rename_act, rename}
 use Rattle.def_meaning.proofs.Booleans.{or_first, or_second, or_more}
-use Rattle.law_common.specs.Blocks.{Shared, declares, find_shared, blocks, calls_some_act, calls_some, found_uses, uses_after, uses, chosen, first_declaring}
-use Rattle.law_common.specs.Members.{member_slots, found_members, block_members, slots_for}
+use Rattle.adj_tree.specs.Common.{Shared}
+use Rattle.def_common.specs.Blocks.{declares, find_shared, blocks, calls_some_act, calls_some, found_uses, uses_after, uses, chosen, first_declaring}
+use Rattle.def_common.specs.Members.{member_slots, found_members, block_members, slots_for}
 use Rattle.law_common.specs.Passing.{EachCall', EachCall}
-use Rattle.law_common.specs.Slots.{shared_units}
-use Rattle.law_common.specs.Lowers.{Each, FoundFits, CallChecks}
-use Rattle.law_common.specs.Accepted.{FoundMatches, CallMatches}
+use Rattle.def_common.specs.Slots.{shared_units}
+use Rattle.def_names.specs.Standing.{count_of}
+use Rattle.law_common.specs.Lowers.{Each, own_dummies, FoundFits, CallChecks}
 use Rattle.law_common.proofs.Laying.{slots_append}
 use Rattle.law_common.proofs.Keeping.{each_found}
 
@@ -195,6 +196,14 @@ mutual
   pub calls_both : (P Q R : List ℕ → Terms → Type 0) → ((g : List ℕ) (args : Terms) → P g args → Q g args → R g args) → (c : Code) → EachCall P c → EachCall Q c → EachCall R c
   calls_both P Q R f stop h k = tt
   calls_both P Q R f (step line a rest) h k = (act_both P Q R f a h.0 k.0, calls_both P Q R f rest h.1 k.1)
+
+-- a call of a unit that is there has an actual for each of its own dummies, and none of its slots is an actual of a dummy that it writes
+abbrev pub FoundMatches : List Shared → List ℕ → Terms → Option Procedure → Type 0
+FoundMatches ps name args None = Unit {0}
+FoundMatches ps name args (Some u) = (count_of args ≡ length (own_dummies ps name)) × Each (λ x. is_handed_back (plain x) (handed_back (shared_units ps) name) args ≡ false) (slots_for ps name)
+
+abbrev pub CallMatches : List Shared → List ℕ → Terms → Type 0
+CallMatches ps name args = FoundMatches ps name args (find_unit (shared_units ps) name)
 
 each_inside : (A B : List ℕ → Type 0) (l : List (List ℕ)) → ((x : List ℕ) → has_name x l ≡ true → B x) → Each A l → Each (λ x. B x × A x) l
 each_inside A B [] f h = tt

@@ -1,7 +1,7 @@
 -- The worked programs are lowered and run as they were worked out by hand.
 use Rattle.std.proofs.Common.{refl}
 use Rattle.std.specs.Int.{int_wrap}
-use Rattle.law_common.specs.Examples.{WorkedLowering, WorkedRun, WorkedLoweredRun, WorkedPassing}
+use Rattle.law_common.specs.Examples.{WorkedLowering, WorkedRun, WorkedLoweredRun, WorkedPassing, WorkedClash, WorkedNaming}
 
 pub lowering : WorkedLowering
 lowering = refl
@@ -17,3 +17,10 @@ lowered_run = refl
 pub passing : WorkedPassing
 unfolding int_wrap
 passing = (refl, (refl, refl))
+
+pub clash : WorkedClash
+unfolding int_wrap
+clash = (refl, (refl, refl))
+
+pub naming : WorkedNaming
+naming = (refl, refl)

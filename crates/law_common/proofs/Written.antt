@@ -7,8 +7,9 @@ use Rattle.def_meaning.specs.Written.{find_unit, is_place_of, is_handed_back, ac
 use Rattle.def_meaning.proofs.Variables.{var_same}
 use Rattle.def_meaning.proofs.LeastSets.{of_found, row_map}
 use Rattle.def_names.specs.Standing.{count_of}
-use Rattle.law_common.specs.Members.{is_slot}
-use Rattle.law_common.specs.Passing.{behind, SlotsOf, passed_act, passed, passed_unit, passed_units, EachCall', EachCall, AllSlots, NoSlots, CallFits, HasSlots}
+use Rattle.def_common.specs.Members.{is_slot}
+use Rattle.def_common.specs.Lowering.{behind}
+use Rattle.law_common.specs.Passing.{SlotsOf, passed_act, passed, passed_unit, passed_units, EachCall', EachCall, AllSlots, NoSlots, CallCounts, HasParts}
 
 -- ---- finding units
 
@@ -61,32 +62,32 @@ module _ (x : Var) (h : is_slot x ≡ false) where
 
 -- ---- round by round
 
-module _ (units : List Procedure) (own sl : SlotsOf) (extents : List ℕ → List _) (has : HasSlots units own sl extents) where
+module _ (units : List Procedure) (own sl : SlotsOf) (has : HasParts units own sl) where
   abbrev others : List Procedure
   others = passed_units sl units
 
   -- what is handed back agrees at own dummies
   abbrev Agree : Dummies → Dummies → Type 0
-  Agree f g = (x : Var) → is_slot x ≡ false → (slots : List (List ℕ)) (name : List ℕ) (args : Terms) → CallFits units own sl slots name args → is_handed_back x (f name) args ≡ is_handed_back x (g name) (behind args (sl name))
+  Agree f g = (x : Var) → is_slot x ≡ false → (name : List ℕ) (args : Terms) → CallCounts units own name args → is_handed_back x (f name) args ≡ is_handed_back x (g name) (behind args (sl name))
 
-  module _ (f g : Dummies) (agree : Agree f g) (slots : List (List ℕ)) (x : Var) (h : is_slot x ≡ false) where
+  module _ (f g : Dummies) (agree : Agree f g) (x : Var) (h : is_slot x ≡ false) where
     mutual
-      act_same : (a : Act) → EachCall' (CallFits units own sl slots) a → act_writes f x a ≡ act_writes g x (passed_act sl a)
+      act_same : (a : Act) → EachCall' (CallCounts units own) a → act_writes f x a ≡ act_writes g x (passed_act sl a)
       act_same (assign y subs e) c = refl
       act_same (choose t a b) c = λ i. writes_same a c.0 i || writes_same b c.1 i
       act_same (loop y first last by body m) c = ap (λ z. var_eq x y || z) (writes_same body c)
       act_same (during t body) c = writes_same body c
-      act_same (call name args) c = agree x h slots name args c
+      act_same (call name args) c = agree x h name args c
       act_same (runtime r) c = refl
 
-      writes_same : (b : Code) → EachCall (CallFits units own sl slots) b → writes f x b ≡ writes g x (passed sl b)
+      writes_same : (b : Code) → EachCall (CallCounts units own) b → writes f x b ≡ writes g x (passed sl b)
       writes_same stop c = refl
       writes_same (step line a rest) c = λ i. act_same a c.0 i || writes_same rest c.1 i
 
   -- rows by tests that agree at own dummies
   module _ (t t' : Procedure → List ℕ → Bool) (same : (name : List ℕ) (u : Procedure) → find_unit units name ≡ Some u → (d : List ℕ) → is_slot (plain d) ≡ false → t u d ≡ t' (passed_unit sl u) d) where
     rows_agree : Agree (row_of units (map (λ u. map (t u) u.dummies) units)) (row_of others (map (λ u. map (t' u) u.dummies) others))
-    rows_agree x h slots name args c =
+    rows_agree x h name args c =
         ap (λ ws. is_handed_back x ws args) (row_map (λ u. map (t u) u.dummies) units name)
         ∙ go (find_unit units name) refl
         ∙ sym (ap (λ ws. is_handed_back x ws (behind args (sl name))) (row_map (λ u. map (t' u) u.dummies) others name ∙ ap (of_found (λ u. map (t' u) u.dummies)) (find_passed sl units name)))
@@ -94,9 +95,9 @@ module _ (units : List Procedure) (own sl : SlotsOf) (extents : List ℕ → Lis
         go : (o : Option Procedure) → find_unit units name ≡ o → is_handed_back x (of_found (λ u. map (t u) u.dummies) o) args ≡ is_handed_back x (of_found (λ u. map (t' u) u.dummies) (passed_found sl o)) (behind args (sl name))
         go None e = refl
         go (Some u) e =
-            let p = has.parts name u e in
+            let p = has.dummies name u e in
             ap (λ l. is_handed_back x (map (t u) l) args) p
-            ∙ back_same x h (t u) (t' (passed_unit sl u)) (same name u e) (own name) (sl name) (has.owns name) (has.slots name) args (c u e).0
+            ∙ back_same x h (t u) (t' (passed_unit sl u)) (same name u e) (own name) (sl name) (has.owns name) (has.slots name) args (c u e)
             ∙ sym (ap (λ l. is_handed_back x (map (t' (passed_unit sl u)) l) (behind args (sl name))) p)
 
   rounds_agree : (k : ℕ) → Agree (row_of units (rounds write_rule units k)) (row_of others (rounds write_rule others k))
@@ -104,11 +105,11 @@ module _ (units : List Procedure) (own sl : SlotsOf) (extents : List ℕ → Lis
   rounds_agree (suc k) =
       let f = row_of units (rounds write_rule units k) in
       let g = row_of others (rounds write_rule others k) in
-      rows_agree (write_rule f) (write_rule g) (λ name u e d h. writes_same f g (rounds_agree k) (sl name) (plain d) h u.body (has.calls name u e))
+      rows_agree (write_rule f) (write_rule g) (λ name u e d h. writes_same f g (rounds_agree k) (plain d) h u.body (has.counts name u e))
 
   pub handed_agree : Agree (handed_back units) (handed_back others)
   handed_agree = subst (λ m. Agree (row_of units (rounds write_rule units (dummies_in_all units))) (row_of others (rounds write_rule others m))) (sym (in_all sl units)) (rounds_agree (dummies_in_all units))
 
   -- so each unit writes the same dummies of its own
   pub written_same : (name : List ℕ) (u : Procedure) → find_unit units name ≡ Some u → (d : List ℕ) → is_slot (plain d) ≡ false → is_written units u d ≡ is_written others (passed_unit sl u) d
-  written_same name u e d h = writes_same (handed_back units) (handed_back others) handed_agree (sl name) (plain d) h u.body (has.calls name u e)
+  written_same name u e d h = writes_same (handed_back units) (handed_back others) handed_agree (plain d) h u.body (has.counts name u e)

@@ -5,12 +5,13 @@ use Rattle.def_meaning.specs.Numbers.{words}
 use Rattle.def_meaning.specs.Store.{scalar}
 use Rattle.def_meaning.specs.Scene.{Outcome, Done, then_do}
 use Rattle.def_meaning.specs.Units.{Slot, Output, run_unit}
-use Rattle.law_common.specs.Blocks.{Common, Shared}
-use Rattle.law_common.specs.Lowering.{lowered_program, lowered_unit}
-use Rattle.law_common.specs.Slots.{run_with_blocks}
-use Rattle.def_names.specs.Fault.{fault}
+use Rattle.adj_tree.specs.Common.{Common, Shared}
+use Rattle.def_common.specs.Lowering.{lowered_program, lowered_unit}
+use Rattle.def_common.specs.Slots.{run_with_blocks}
+use Rattle.def_names.specs.Fault.{source_rules, fault}
+use Rattle.def_names.specs.Check.{first_fault}
 use Rattle.law_common.specs.Accepted.{Accepted}
-use Rattle.law_common.specs.Refused.{layout_refusal}
+use Rattle.def_common.specs.Refused.{layout_refusal}
 
 abbrev v : List ℕ → Term
 v x = var (plain x)
@@ -18,10 +19,10 @@ v x = var (plain x)
 abbrev set : List ℕ → Term → Act
 set x e = assign (plain x) none e
 
-abbrev declare : ℕ → List ℕ → Declaration
+abbrev pub declare : ℕ → List ℕ → Declaration
 declare line x = record { line = line; name = x; extents = [] }
 
-abbrev common : ℕ → List Declaration → Common
+abbrev pub common : ℕ → List Declaration → Common
 common line items = record { line = line; block = codes "B"; items = items }
 
 -- SUBROUTINE P(X,Y); INTEGER*8 X,Y,K; COMMON /B/ K; K=X*X; CALL G(Y); END
@@ -104,7 +105,7 @@ summing = record {
 }
 
 abbrev pub WorkedAccepted : Type 0
-WorkedAccepted = Accepted shared × Accepted (first ∷ second ∷ between ∷ [])
+WorkedAccepted = Accepted source_rules shared × Accepted source_rules (first ∷ second ∷ between ∷ [])
 
 abbrev pub three : List ℤ → Slot ℤ
 three zs = record { shape = record { rows = 3; cols = 0 }; cells = zs }
@@ -112,7 +113,7 @@ three zs = record { shape = record { rows = 3; cols = 0 }; cells = zs }
 -- with S 5 the array gets 5, 10, 15, and N and S 15
 abbrev pub WorkedArrays : Type 0
 WorkedArrays =
-    Accepted (Q ∷ summing ∷ [])
+    Accepted source_rules (Q ∷ summing ∷ [])
     × (ended (run_with_blocks words (Q ∷ summing ∷ []) Q (word (pos 0) ∷ word (pos 5) ∷ three (pos 0 ∷ pos 0 ∷ pos 0 ∷ []) ∷ []) [] None 19) ≡ Done (word (pos 15) ∷ word (pos 15) ∷ three (pos 5 ∷ pos 10 ∷ pos 15 ∷ []) ∷ []) 10)
 
 -- ---- refusals
@@ -131,3 +132,30 @@ longer_summing = record summing { commons = common 12 (declare 12 (codes "A") �
 
 abbrev pub WorkedRefusals : Type 0
 WorkedRefusals = (layout_refusal shared ≡ None) × ((layout_refusal (first ∷ longer ∷ []) ≡ Some (fault 26 9)) × ((layout_refusal (named ∷ second ∷ []) ≡ Some (fault 26 3)) × (layout_refusal (Q ∷ longer_summing ∷ []) ≡ Some (fault 26 13))))
+
+-- ---- what is asked is needed
+
+-- the first with CALL G(K), and the second with L=1 behind its statement
+abbrev handing : Shared
+handing = record first { unit = record first.unit { body = step 4 (set (codes "K") (bin times (v (codes "X")) (v (codes "X")))) (step 5 (call (codes "G") (more (v (codes "K")) none)) stop) } }
+
+abbrev setting : Shared
+setting = record second { unit = record second.unit { body = step 10 (set (codes "A") (bin times (v (codes "L")) (lit (pos 3)))) (step 11 (set (codes "L") (lit (pos 1))) stop) } }
+
+-- With X 2 the unit that is called sets the member to 1, and its dummy, which is 12 then, is copied out to the member. The lowered program copies
+-- out the dummy first, and then the member: it is refused for one variable as two actuals.
+abbrev pub WorkedClash : Type 0
+WorkedClash =
+    (first_fault source_rules (lowered_program (handing ∷ setting ∷ [])) ≡ Some (fault 17 5))
+    × ((ended (run_with_blocks words (handing ∷ setting ∷ []) handing input [] None 9) ≡ Done (word (pos 2) ∷ word (pos 0) ∷ word (pos 12) ∷ []) 4)
+    × (ended (run_unit words (lowered_program (handing ∷ setting ∷ [])) (lowered_unit (handing ∷ setting ∷ []) handing) input [] None 9) ≡ Done (word (pos 2) ∷ word (pos 0) ∷ word (pos 1) ∷ []) 4))
+
+-- SUBROUTINE H(Z,K,W); INTEGER*8 Z,K,W(K_1); CALL G(Z); END
+abbrev naming : Shared
+naming = record between { unit = record between.unit { dummies = codes "Z" ∷ codes "K" ∷ codes "W" ∷ []; declarations = declare 13 (codes "Z") ∷ declare 13 (codes "K") ∷ record { line = 13; name = codes "W"; extents = given (codes "K_1") ∷ [] } ∷ [] } }
+
+-- a name among extents isn't free for the member that is passed through: that would be the extent, where the text has none
+abbrev pub WorkedNaming : Type 0
+WorkedNaming =
+    ((lowered_unit (first ∷ second ∷ naming ∷ []) naming).dummies ≡ (codes "Z" ∷ codes "K" ∷ codes "W" ∷ codes "K_2" ∷ []))
+    × (first_fault source_rules (lowered_program (first ∷ second ∷ naming ∷ [])) ≡ Some (fault 12 13))

@@ -6,11 +6,12 @@ use Rattle.def_meaning.specs.Written.{find_unit, is_handed_back, handed_back}
 use Rattle.def_meaning.specs.Units.{declared, shape_of, shape_fits}
 use Rattle.def_meaning.specs.Rename.{rename}
 use Rattle.def_names.specs.Standing.{count_of}
-use Rattle.law_common.specs.Blocks.{Shared, find_shared, used_blocks}
-use Rattle.law_common.specs.Members.{is_slot, member_names, member_slots, block_members, slots_for, members, owned, swapped, swap, swapped_declaration}
-use Rattle.law_common.specs.Slots.{slot_declarations, shared_units}
+use Rattle.adj_tree.specs.Common.{Shared}
+use Rattle.def_common.specs.Blocks.{find_shared, used_blocks}
+use Rattle.def_common.specs.Members.{names_of_blocks, is_slot, member_names, member_slots, block_members, slots_for, members, owned, swapped, swap, swapped_declaration}
+use Rattle.def_common.specs.Slots.{slot_declarations, shared_units}
 use Rattle.law_common.specs.Passing.{EachCall}
-use Rattle.law_common.specs.Lowering.{lowered_unit}
+use Rattle.def_common.specs.Lowering.{lowered_unit}
 
 abbrev pub Each : {A : Type 0} → (A → Type 0) → List A → Type 0
 Each P [] = Unit {0}
@@ -101,7 +102,16 @@ FoundFits ps slots name args (Some u) =
 abbrev pub CallChecks : List Shared → List (List ℕ) → List ℕ → Terms → Type 0
 CallChecks ps slots name args = FoundFits ps slots name args (find_unit (shared_units ps) name)
 
-pub record LowersUnit (ps : List Shared) (s : Shared) : Type 0 where
+abbrev pub FoundCounts : List Shared → List ℕ → Terms → Option Procedure → Type 0
+FoundCounts ps name args None = Unit {0}
+FoundCounts ps name args (Some u) = count_of args ≡ length (own_dummies ps name)
+
+-- the same of the number of actuals alone
+abbrev pub CallCounted : List Shared → List ℕ → Terms → Type 0
+CallCounted ps name args = FoundCounts ps name args (find_unit (shared_units ps) name)
+
+-- the unit with slots is the lowered one under other names, and calls in it have actuals for own dummies
+pub record RenamesUnit (ps : List Shared) (s : Shared) : Type 0 where
   -- members have names of their own
   pub apart : AreApart (member_names (members ps s) ++ member_slots (members ps s))
   -- there is one for each slot
@@ -114,9 +124,18 @@ pub record LowersUnit (ps : List Shared) (s : Shared) : Type 0 where
   -- its blocks are laid out by literals, and members in the lowered unit as their slots
   pub layout : Each (λ m. IsLaidOut m.extents) (block_members ps (used_blocks ps s.unit.name))
   pub placed : Each (λ m. declared (lowered_unit ps s).declarations (plain m.name) ≡ declared (slot_declarations ps s.unit.name) (plain m.slot)) (members ps s)
-  -- calls fit
+  pub counts : EachCall (CallCounted ps) (rename (swap (owned (members ps s))) s.unit.body)
+  -- calls pass for blocks the members that stand for the called unit's slots
+  pub handed : EachCall (λ name args. names_of_blocks (members ps s) (used_blocks ps name) ≡ map (swapped (members ps s)) (slots_for ps name)) s.unit.body
+
+-- besides calls fit
+pub record LowersUnit (ps : List Shared) (s : Shared) : Type 0 where
+  pub renames : RenamesUnit ps s
   pub calls : EachCall (CallChecks ps (slots_for ps s.unit.name)) (rename (swap (owned (members ps s))) s.unit.body)
 
 -- each unit is so
+abbrev pub Renames : List Shared → Type 0
+Renames ps = Each (RenamesUnit ps) ps
+
 abbrev pub Lowers : List Shared → Type 0
 Lowers ps = Each (LowersUnit ps) ps

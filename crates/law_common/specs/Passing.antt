@@ -1,17 +1,12 @@
 -- Programs in which calls pass slots: in each call of a unit the unit's slots follow the call's own actuals. The premises on a program with slots.
 use Rattle.std.specs.Prelude.{◌≡◌, ℕ, ℤ, List, [], ◌∷◌, ◌++◌, map, length, true, false, ◌||◌, ◌==◌, Some}
-use Rattle.adj_tree.specs.Code.{plain, var, Terms, none, more, Act, assign, choose, loop, during, call, runtime, Code, stop, step, fixed, Procedure}
+use Rattle.adj_tree.specs.Code.{plain, Terms, Act, assign, choose, loop, during, call, runtime, Code, stop, step, fixed, Procedure}
 use Rattle.def_meaning.specs.Apart.{has_name}
 use Rattle.def_meaning.specs.Written.{find_unit, is_handed_back, handed_back}
 use Rattle.def_meaning.specs.Units.{declared, shape_of, shape_fits}
 use Rattle.def_names.specs.Standing.{count_of}
-use Rattle.law_common.specs.Members.{is_slot}
-
--- variables after actuals
-abbrev pub behind : Terms → List (List ℕ) → Terms
-behind none [] = none
-behind none (x ∷ xs) = more (var (plain x)) (behind none xs)
-behind (more e es) xs = more e (behind es xs)
+use Rattle.def_common.specs.Lowering.{behind}
+use Rattle.def_common.specs.Members.{is_slot}
 
 -- the slots of the unit of a name
 abbrev pub SlotsOf : Type 0
@@ -68,11 +63,20 @@ CallFits units own sl slots name args =
     (u : Procedure) → find_unit units name ≡ Some u →
     (count_of args ≡ length (own name)) × ((x : List ℕ) → has_name x (sl name) ≡ true → (has_name x slots ≡ true) × (is_handed_back (plain x) (handed_back units name) args ≡ false))
 
--- the slots follow a unit's own dummies, with the same literal extents in each unit, and calls fit
-pub record HasSlots (units : List Procedure) (own sl : SlotsOf) (extents : List ℕ → List ℤ) : Type 0 where
-  pub parts : (name : List ℕ) (u : Procedure) → find_unit units name ≡ Some u → u.dummies ≡ own name ++ sl name
+-- a call of a unit that is there has an actual for each of its own dummies
+abbrev pub CallCounts : List Procedure → SlotsOf → List ℕ → Terms → Type 0
+CallCounts units own name args = (u : Procedure) → find_unit units name ≡ Some u → count_of args ≡ length (own name)
+
+-- the slots follow a unit's own dummies, and calls have actuals for these
+pub record HasParts (units : List Procedure) (own sl : SlotsOf) : Type 0 where
+  pub dummies : (name : List ℕ) (u : Procedure) → find_unit units name ≡ Some u → u.dummies ≡ own name ++ sl name
   pub owns : (name : List ℕ) → NoSlots (own name)
   pub slots : (name : List ℕ) → AllSlots (sl name)
+  pub counts : (name : List ℕ) (u : Procedure) → find_unit units name ≡ Some u → EachCall (CallCounts units own) u.body
+
+-- slots have the same literal extents in each unit, and calls fit
+pub record HasSlots (units : List Procedure) (own sl : SlotsOf) (extents : List ℕ → List ℤ) : Type 0 where
+  pub parts : HasParts units own sl
   pub declares : (name : List ℕ) (u : Procedure) → find_unit units name ≡ Some u → (x : List ℕ) → has_name x (sl name) ≡ true → declared u.declarations (plain x) ≡ map fixed (extents x)
   pub fit : (name : List ℕ) (u : Procedure) → find_unit units name ≡ Some u → (x : List ℕ) → has_name x (sl name) ≡ true → (length (extents x) == 0 || shape_fits (extents x) (shape_of (extents x))) ≡ true
   pub calls : (name : List ℕ) (u : Procedure) → find_unit units name ≡ Some u → EachCall (CallFits units own sl (sl name)) u.body

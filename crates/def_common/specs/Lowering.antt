@@ -1,19 +1,19 @@
 -- The lowered program, which has no blocks: members become dummies, after the unit's own.
 use Rattle.std.specs.Prelude.{ℕ, List, [], ◌∷◌, ◌++◌, map, length, Bool, not, ◌||◌, ◌&&◌, ◌==◌, if◌then◌else◌}
-use Rattle.adj_tree.specs.Code.{plain, name_eq, Act, assign, choose, loop, during, call, runtime, Code, stop, step, Extent, Declaration, Procedure}
+use Rattle.adj_tree.specs.Code.{plain, name_eq, var, Terms, none, more, Act, assign, choose, loop, during, call, runtime, Code, stop, step, Extent, Declaration, Procedure}
 use Rattle.def_meaning.specs.Units.{declared}
 use Rattle.def_meaning.specs.Apart.{has_name}
 use Rattle.def_names.specs.Variables.{is_integer_name}
-use Rattle.law_common.specs.Blocks.{Shared}
-use Rattle.law_common.specs.Members.{Member, member_names, slots_for, members, swapped}
-use Rattle.law_common.specs.Passing.{behind}
+use Rattle.adj_tree.specs.Common.{Shared}
+use Rattle.def_common.specs.Blocks.{used_blocks}
+use Rattle.def_common.specs.Members.{Member, member_names, names_of_blocks, members}
 
 -- ---- declarations
 
 -- a declaration without extents takes those of the unit's item
 abbrev pub item_extents : List Member → List ℕ → List Extent
 item_extents [] x = []
-item_extents (m ∷ ms) x = if name_eq m.name x then m.extents else item_extents ms x
+item_extents (m ∷ ms) x = if name_eq m.name x then m.item else item_extents ms x
 
 abbrev pub with_extents : List Member → Declaration → Declaration
 with_extents ms d = if length d.extents == 0 then record d { extents = item_extents ms d.name } else d
@@ -37,16 +37,22 @@ new_declarations u (m ∷ ms) =
 
 -- ---- calls
 
+-- variables after actuals
+abbrev pub behind : Terms → List (List ℕ) → Terms
+behind none [] = none
+behind none (x ∷ xs) = more (var (plain x)) (behind none xs)
+behind (more e es) xs = more e (behind es xs)
+
 abbrev mutual
   pub lowered_act : List Shared → List Member → Act → Act
   lowered_act ps ms (assign x subs e) = assign x subs e
   lowered_act ps ms (choose c a b) = choose c (lowered ps ms a) (lowered ps ms b)
   lowered_act ps ms (loop x first last by body m) = loop x first last by (lowered ps ms body) m
   lowered_act ps ms (during c body) = during c (lowered ps ms body)
-  lowered_act ps ms (call name args) = call name (behind args (map (swapped ms) (slots_for ps name)))
+  lowered_act ps ms (call name args) = call name (behind args (names_of_blocks ms (used_blocks ps name)))
   lowered_act ps ms (runtime r) = runtime r
 
-  -- each call passes, for each slot of the unit that it calls, the caller's member that stands for it
+  -- each call passes the caller's members of the blocks that the unit uses which it calls
   pub lowered : List Shared → List Member → Code → Code
   lowered ps ms stop = stop
   lowered ps ms (step line a rest) = step line (lowered_act ps ms a) (lowered ps ms rest)

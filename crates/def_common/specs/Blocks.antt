@@ -1,19 +1,9 @@
 -- Units with COMMON blocks, which units use a block, and how a unit lays it out.
 use Rattle.std.specs.Prelude.{ℕ, zero, suc, List, [], ◌∷◌, ◌++◌, map, length, Bool, false, ◌||◌, ◌==◌, Option, Some, None, if◌then◌else◌}
 use Rattle.adj_tree.specs.Code.{plain, name_eq, Act, assign, choose, loop, during, call, runtime, Code, stop, step, Extent, Declaration, Procedure}
+use Rattle.adj_tree.specs.Common.{Common, Shared}
 use Rattle.def_meaning.specs.Units.{declared}
 use Rattle.def_meaning.specs.Apart.{has_name}
-
--- a COMMON statement: its items, with the extents that it gives them
-pub record Common : Type 0 where
-  pub line : ℕ
-  pub block : List ℕ
-  pub items : List Declaration
-
--- a unit as it is read, and its COMMON statements in order
-pub record Shared : Type 0 where
-  pub unit : Procedure
-  pub commons : List Common
 
 -- ---- members
 

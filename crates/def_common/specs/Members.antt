@@ -1,10 +1,12 @@
 -- Members of blocks: the slots that they stand for, their names in a unit, and which slots a unit has.
-use Rattle.std.specs.Prelude.{ℕ, suc, ◌+◌, List, [], ◌∷◌, ◌++◌, map, length, Bool, true, false, ◌&&◌, ◌==◌, Option, Some, None, if◌then◌else◌}
+use Rattle.std.specs.Prelude.{ℕ, suc, ◌+◌, List, [], ◌∷◌, ◌++◌, map, flat_map, length, Bool, true, false, ◌&&◌, ◌==◌, Option, Some, None, if◌then◌else◌}
 use Rattle.adj_tree.specs.Code.{Var, plain, shadow, helper, name_eq, Extent, fixed, given, Declaration, Procedure}
 use Rattle.def_names.specs.Fresh.{fresh}
+use Rattle.def_names.specs.NameFaults.{extent_names}
 use Rattle.def_names.specs.Reserved.{reserved}
 use Rattle.def_names.specs.Variables.{variables}
-use Rattle.law_common.specs.Blocks.{Common, Shared, extents_in, declares, first_declaring, used_blocks}
+use Rattle.adj_tree.specs.Common.{Common, Shared}
+use Rattle.def_common.specs.Blocks.{extents_in, declares, first_declaring, used_blocks}
 
 -- ---- slots
 
@@ -18,9 +20,10 @@ is_slot v = false
 
 -- ---- members
 
--- a member of a block in a unit: its name there, its slot, its extents, its line, and whether the unit declares the block
+-- a member of a block in a unit: its name there, its block, its slot, its extents, its line, and whether the unit declares the block
 pub record Member : Type 0 where
   pub name : List ℕ
+  pub block : List ℕ
   pub slot : List ℕ
   pub extents : List Extent
   -- those that the COMMON item gives
@@ -37,7 +40,7 @@ member_slots ms = map (λ m. m.slot) ms
 -- those of one COMMON statement, from the i-th on
 abbrev pub own_items : Procedure → List ℕ → ℕ → ℕ → List Declaration → List Member
 own_items u b line i [] = []
-own_items u b line i (d ∷ ds) = record { name = d.name; slot = slot_name b i; extents = extents_in u d; item = d.extents; line = line; own = true } ∷ own_items u b line (suc i) ds
+own_items u b line i (d ∷ ds) = record { name = d.name; block = b; slot = slot_name b i; extents = extents_in u d; item = d.extents; line = line; own = true } ∷ own_items u b line (suc i) ds
 
 -- those of a block in a unit that declares it
 abbrev pub own_members : Procedure → List ℕ → ℕ → List Common → List Member
@@ -62,7 +65,7 @@ abbrev pub passed_members : ℕ → List (List ℕ) → List Member → List Mem
 passed_members line taken [] = []
 passed_members line taken (m ∷ ms) =
     let x = fresh m.name taken in
-    record { name = x; slot = m.slot; extents = m.extents; item = []; line = line; own = false } ∷ passed_members line (x ∷ taken) ms
+    record { name = x; block = m.block; slot = m.slot; extents = m.extents; item = []; line = line; own = false } ∷ passed_members line (x ∷ taken) ms
 
 abbrev pub members_from : List Shared → Shared → List (List ℕ) → List (List ℕ) → List Member
 members_from ps s taken [] = []
@@ -73,13 +76,18 @@ members_from ps s taken (b ∷ bs) =
 abbrev pub unit_names : List Shared → List (List ℕ)
 unit_names ps = map (λ s. s.unit.name) ps
 
--- the names that a fresh one must not have: the unit's variables and all its members, units, and reserved names
+-- the names of a unit's items
+abbrev pub item_names : List Common → List (List ℕ)
+item_names [] = []
+item_names (c ∷ cs) = map (λ d. d.name) c.items ++ item_names cs
+
+-- all names in a unit's text, those of extents and of members too
+abbrev pub names_in : Shared → List (List ℕ)
+names_in s = variables s.unit ++ (item_names s.commons ++ flat_map (λ d. extent_names d.extents) s.unit.declarations)
+
+-- the names that a fresh one must not have: those in the unit's text, units, and reserved names
 abbrev pub taken_in : List Shared → Shared → List (List ℕ)
-taken_in ps s = variables s.unit ++ (own_names s.commons ++ (unit_names ps ++ reserved))
-  where
-    own_names : List Common → List (List ℕ)
-    own_names [] = []
-    own_names (c ∷ cs) = map (λ d. d.name) c.items ++ own_names cs
+taken_in ps s = names_in s ++ (unit_names ps ++ reserved)
 
 -- all members of the blocks that a unit uses, in the order of the blocks
 abbrev pub members : List Shared → Shared → List Member
@@ -89,6 +97,16 @@ members ps s = members_from ps s (taken_in ps s) (used_blocks ps s.unit.name)
 abbrev pub owned : List Member → List Member
 owned [] = []
 owned (m ∷ ms) = if m.own then m ∷ owned ms else owned ms
+
+-- those of a block by their names
+abbrev pub names_of_block : List ℕ → List Member → List (List ℕ)
+names_of_block b [] = []
+names_of_block b (m ∷ ms) = if name_eq m.block b then m.name ∷ names_of_block b ms else names_of_block b ms
+
+-- those of some blocks, in the order of these
+abbrev pub names_of_blocks : List Member → List (List ℕ) → List (List ℕ)
+names_of_blocks ms [] = []
+names_of_blocks ms (b ∷ bs) = names_of_block b ms ++ names_of_blocks ms bs
 
 -- ---- names for slots
 

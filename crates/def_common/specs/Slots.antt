@@ -12,8 +12,9 @@ use Rattle.def_meaning.specs.Rename.{rename}
 use Rattle.def_meaning.specs.Apart.{is_named}
 use Rattle.def_meaning.specs.Written.{find_unit, handed_back}
 use Rattle.def_meaning.specs.Units.{actuals, entry_store, dummies_fit, copied_out, setting_in, unit_run, Slot, Output, input_store, dummy_slots}
-use Rattle.law_common.specs.Blocks.{Shared, used_blocks}
-use Rattle.law_common.specs.Members.{is_slot, block_members, slots_for, members, owned, swap, swapped_declaration}
+use Rattle.adj_tree.specs.Common.{Shared}
+use Rattle.def_common.specs.Blocks.{used_blocks}
+use Rattle.def_common.specs.Members.{is_slot, block_members, slots_for, members, owned, swap, swapped_declaration}
 
 -- the slots of a unit stand among its dummies: they are those of the members of the blocks that it uses
 abbrev pub is_slot_of : Procedure → Var → Bool

@@ -1,0 +1,2 @@
+-- the lemmas of the crate
+pub mod WithoutBlocks
