@@ -1,15 +1,16 @@
--- What an emitted program looks like: which units it has, and what each adjoint unit keeps, saves, pushes and sets. It is told of the text
+-- What an emitted program looks like: which units it has, and what each adjoint, forward and backward unit keeps, saves, pushes and sets. It is told of the text
 -- alone, statement by statement, whatever its helpers are; its line numbers count for nothing. (docs/EMITTED.md, "What the text looks like")
 use Rattle.std.specs.Prelude.{◌≡◌, ℕ, suc, nat_lt, ◌-◌, pos, List, [], ◌∷◌, ◌++◌, map, flat_map, Bool, true, false, not, ◌&&◌, ◌||◌, Option, Some, None, if◌then◌else◌}
 use Rattle.std.specs.List.{list_any, list_all}
-use Rattle.adj_tree.specs.Code.{Var, plain, shadow, helper, name_eq, var_eq, lit, var, is_same, Terms, none, more, Test, compare, Runtime, push_word, push_array, push_control, zero_array, begin_reversal, count_actions, give_action, end_reversal, Mark, unmarked, with_count, count_from, Term, Act, assign, choose, loop, during, call, runtime, Code, stop, step, Procedure}
+use Rattle.adj_tree.specs.Code.{Var, plain, shadow, helper, name_eq, var_eq, lit, var, is_same, Terms, none, more, Test, compare, Runtime, push_word, pop_word, push_array, pop_array, push_control, zero_array, begin_reversal, count_actions, give_action, end_reversal, Mark, unmarked, with_count, count_from, Term, Act, assign, choose, loop, during, call, runtime, Code, stop, step, Procedure}
 use Rattle.adj_tree.specs.Lines.{unlined_procedure, unlined}
-use Rattle.def_meaning.specs.Append.{◌+++◌}
+use Rattle.def_meaning.specs.Append.{◌+++◌, one}
 use Rattle.def_meaning.specs.Written.{find_unit}
 use Rattle.def_meaning.specs.Units.{declared}
 use Rattle.def_names.specs.Statements.{At, statements}
 use Rattle.def_names.specs.Variables.{variables}
 use Rattle.def_meaning.specs.Apart.{has_name}
+use Rattle.def_sweep.specs.Callees.{nothing}
 use Rattle.def_sweep.specs.Naming.{Named, unit_names, name_in}
 use Rattle.def_names.specs.Numbers.{Vars, next, behind}
 use Rattle.def_sweep.specs.Marks.{Marks}
@@ -17,9 +18,9 @@ use Rattle.def_sweep.specs.Marked.{names_in}
 use Rattle.def_sweep.specs.MarkedProgram.{shadows_behind}
 use Rattle.def_sweep.specs.Declared.{unit_name, unmarked as unlisted}
 use Rattle.def_sweep.specs.Plan.{Plan, is_emitted, names_of, actuals_named, found_or, save_group, snapshot_group, step_snapshot, Schedules, Step, reversed_by}
-use Rattle.def_sweep.specs.Names.{adjoint_name}
-use Rattle.def_sweep.specs.Marking.{ProgramMarks, marks_in, first_statement, plan_in}
-use Rattle.def_sweep.specs.Program.{has_adjoint, all_units, schedules_in}
+use Rattle.def_sweep.specs.Names.{adjoint_name, forth_name, back_name}
+use Rattle.def_sweep.specs.Marking.{ProgramMarks, first_statement, arrays_of, plan_in}
+use Rattle.def_sweep.specs.Program.{has_adjoint, has_pair, all_units, left_by, split_plan, schedules_in}
 
 -- ---- statements, at any depth, in text order
 
@@ -47,7 +48,7 @@ abbrev mutual
   gathered_list r adjointed f g i stop = []
   gathered_list r adjointed f g i (step line a rest) = gathered_act r adjointed f g i a ++ gathered_list r adjointed f g (next i a) rest
 
--- ---- the names in an adjoint unit
+-- ---- the names in an adjoint and in a backward unit
 
 -- the names of the unit's variables and of their shadows
 abbrev pub shadow_table : ProgramMarks → List Procedure → Procedure → Procedure → List Named
@@ -86,8 +87,13 @@ stays m i (during c body) = is_emitted m i
 stays m i (call name args) = m.kept i
 stays m i (runtime r) = false
 
-abbrev pub kept_of : Marks → Vars → ℕ → Act → List Act
-kept_of m own i a = if stays m i a then primal own a else []
+-- a split call stays as the call of the forward unit
+abbrev pub own_call : Plan → ℕ → Act → Act
+own_call p i (call name args) = if p.marks.split i then call (p.callees name).forth args else call name args
+own_call p i a = a
+
+abbrev pub kept_of : Plan → Vars → ℕ → Act → List Act
+kept_of p own i a = if stays p.marks i a then primal own (own_call p i a) else []
 
 -- ---- what it pushes
 
@@ -101,7 +107,7 @@ pushed own _ = []
 abbrev pub push_whole : Vars → List ℕ → Runtime
 push_whole arrays x = if arrays (plain x) then push_array (plain x) else push_word (plain x) none
 
--- those that are due for a statement of the unit: its target or its variable, where that is saved, and the groups of a call
+-- those that are due for a statement of the unit: its target or its variable, where that is saved, and the groups of a call that isn't split
 abbrev pub due : Plan → ℕ → Act → List Runtime
 due p i (assign x subs e) = if p.marks.kept i && p.marks.saved i x then push_word x subs ∷ [] else []
 due p i (choose c a b) = []
@@ -110,7 +116,7 @@ due p i (during c body) = []
 due p i (call name args) =
     let g = p.callees name in
     let given = names_of args in
-    if is_emitted p.marks i
+    if is_emitted p.marks i && not (p.marks.split i)
     then map (push_whole p.arrays) (save_group p.marks i g given) ++ (if p.marks.adjointed i then map (push_whole p.arrays) (snapshot_group g given) else [])
     else []
 due p i (runtime r) = []
@@ -264,6 +270,31 @@ abbrev mutual
   deeds_back r p i stop = []
   deeds_back r p i (step line a rest) = deeds_back r p (next i a) rest ++ deeds_act r p i a
 
+-- ---- the sweeps of a unit, by a plan
+
+-- the forward sweep of a unit u
+pub record IsForward (r : Schedules) (p : Plan) (i : ℕ) (u : Procedure) (shadows : Vars) (forth : Code) : Type 0 where
+  -- the statements of u that stay, in text order, and no others of its own
+  pub keeps : gathered (primal (is_own u)) forth ≡ gathered_from (kept_of p (is_own u)) i (statements u.body)
+  -- no shadow is assigned
+  pub spares : list_any shadows (gathered assigned forth) ≡ false
+  -- and of the runtime's calls there are pushes alone
+  pub pushes_alone : list_all is_push (gathered ran forth) ≡ true
+  -- the pushes that are due, in text order, and besides them single words
+  pub saves : gathered (pushed (is_own u)) forth ≡ gathered_list r p.marks.adjointed (due p) (due_turns p) i u.body
+  pub sparing : is_sparing (is_own u) shadows false 0 forth ≡ true
+
+-- the backward sweep; `units` are those of the kernel
+pub record IsBackward (r : Schedules) (p : Plan) (i : ℕ) (units : List ℕ → Bool) (u : Procedure) (back : Code) : Type 0 where
+  -- the loops that are reversed by schedules are reversed, and besides nothing is pushed and no kernel unit is called
+  pub reverses : done_list (deeds (is_own u) units) None 0 back ≡ deeds_back r p i u.body
+  -- and a variable of u is assigned in the body of a loop alone, where it is that of a DO of u
+  pub assigns : restores (is_own u) (λ v. list_any (var_eq v) (gathered turned u.body)) false back ≡ true
+
+-- whether the name is that of a unit
+abbrev pub is_among : List Procedure → List ℕ → Bool
+is_among ps x = has_name x (map unit_name ps)
+
 -- ---- an adjoint unit
 
 -- the shadows of these set to 0
@@ -288,19 +319,44 @@ pub record IsAdjointUnit (schedules : Bool) (m : ProgramMarks) (ps : List Proced
   pub forth : Code
   pub back : Code
   pub body : let p = plan_in m ps u in a.body ≡ forth +++ (cleared p.arrays (shadow_table m ps head u) (cleared_dummies m head u outvars) +++ (back +++ cleared p.arrays (shadow_table m ps head u) (cleared_dummies m head u vars)))
-  -- forward: the statements of u that stay, in text order, and no others of its own
-  pub keeps : gathered (primal (is_own u)) forth ≡ gathered_from (kept_of (marks_in m u.name) (is_own u)) (first_statement ps u.name) (statements u.body)
-  -- no shadow is assigned
-  pub spares : list_any (is_shadow m ps head u) (gathered assigned forth) ≡ false
-  -- and of the runtime's calls there are pushes alone
-  pub pushes_alone : list_all is_push (gathered ran forth) ≡ true
-  -- the pushes that are due, in text order, and besides them single words
-  pub saves : let p = plan_in m ps u in gathered (pushed (is_own u)) forth ≡ gathered_list (schedules_in schedules ps) m.adjointed (due p) (due_turns p) (first_statement ps u.name) u.body
-  pub sparing : is_sparing (is_own u) (is_shadow m ps head u) false 0 forth ≡ true
-  -- backward: the loops that are reversed by schedules are reversed, and besides nothing is pushed and no kernel unit is called
-  pub reverses : done_list (deeds (is_own u) (λ x. has_name x (map unit_name ps))) None 0 back ≡ deeds_back (schedules_in schedules ps) (plan_in m ps u) (first_statement ps u.name) u.body
-  -- and a variable of u is assigned in the body of a loop alone, where it is that of a DO of u
-  pub assigns : restores (is_own u) (λ v. list_any (var_eq v) (gathered turned u.body)) false back ≡ true
+  pub forward : IsForward (schedules_in schedules ps) (plan_in m ps u) (first_statement ps u.name) u (is_shadow m ps head u) forth
+  pub backward : IsBackward (schedules_in schedules ps) (plan_in m ps u) (first_statement ps u.name) (is_among ps) u back
+
+-- ---- a forward and a backward unit
+
+-- what a forward unit leaves on the tape at its end: in the order of the variables, those that are no dummies and the dummies that are written
+abbrev pub left_pushed : Vars → List (List ℕ) → Code
+left_pushed arrays [] = stop
+left_pushed arrays (x ∷ xs) = step 0 (runtime (push_whole arrays x)) (left_pushed arrays xs)
+
+abbrev pub pop_whole : Vars → List ℕ → Runtime
+pop_whole arrays x = if arrays (plain x) then pop_array (plain x) else pop_word (plain x) none
+
+-- a backward unit takes it in the opposite order
+abbrev pub left_popped : Vars → List (List ℕ) → Code
+left_popped arrays [] = stop
+left_popped arrays (x ∷ xs) = left_popped arrays xs +++ one 0 (runtime (pop_whole arrays x))
+
+-- Their sweeps are those by the marks by which each statement of u is kept, and each variable saved. The forward unit has no shadows.
+pub record IsForthUnit (schedules : Bool) (m : ProgramMarks) (ps : List Procedure) (u a : Procedure) : Type 0 where
+  pub name : a.name ≡ forth_name ps u
+  pub dummies : a.dummies ≡ u.dummies
+  -- a variable that isn't one of u is a scalar
+  pub scalars : (v : Var) → is_own u v ≡ false → declared a.declarations v ≡ []
+  -- its body is a forward sweep, and then the pushes of what is left
+  pub forth : Code
+  pub body : a.body ≡ forth +++ left_pushed (arrays_of u) (left_by ps u)
+  pub forward : IsForward (schedules_in schedules ps) (split_plan m ps u) (first_statement ps u.name) u nothing forth
+
+pub record IsBackUnit (schedules : Bool) (m : ProgramMarks) (ps : List Procedure) (head u a : Procedure) : Type 0 where
+  pub name : a.name ≡ back_name ps u
+  -- its dummies are those of the adjoint unit of u
+  pub dummies : a.dummies ≡ shadows_behind (m.shadowed u.name) (shadow_table m ps head u) u.dummies
+  pub scalars : (v : Var) → is_own u v ≡ false → is_shadow m ps head u v ≡ false → declared a.declarations v ≡ []
+  -- its body is the pops of what was left, and then a backward sweep
+  pub back : Code
+  pub body : a.body ≡ left_popped (arrays_of u) (left_by ps u) +++ back
+  pub backward : IsBackward (schedules_in schedules ps) (split_plan m ps u) (first_statement ps u.name) (is_among ps) u back
 
 -- ---- the program
 
@@ -311,10 +367,13 @@ is_called qs name = has_name name (flat_map (λ v. gathered called v.body) qs)
 -- what the emitted program qs of the kernel ps looks like by some marks, of which the line numbers are 0
 pub record IsShaped (schedules : Bool) (m : ProgramMarks) (ps : List Procedure) (head : Procedure) (vars outvars : List Bool) (qs : List Procedure) : Type 0 where
   pub made : Procedure → Procedure
-  -- Its units are, in the order of the kernel, each kernel unit that a unit of it calls, and each adjoint unit: of the head, and of what an
-  -- adjointed call of a unit with an adjoint names. There are no others.
-  pub units : qs ≡ flat_map (λ u. (if is_called qs u.name then unlined_procedure u ∷ [] else []) ++ (if has_adjoint m ps head u.name then made u ∷ [] else [])) ps
+  pub forth : Procedure → Procedure
+  pub back : Procedure → Procedure
+  -- Its units are, in the order of the kernel and for each kernel unit in this order: the kernel unit where a unit of it calls it; its adjoint unit where it is the
+  -- head, or an adjointed call that isn't split names it; and its forward and its backward unit where a split call names it. There are no others.
+  pub units : qs ≡ flat_map (λ u. (if is_called qs u.name then unlined_procedure u ∷ [] else []) ++ ((if has_adjoint m ps head u.name then made u ∷ [] else []) ++ (if has_pair m ps head u.name then forth u ∷ back u ∷ [] else []))) ps
   pub adjoints : (u : Procedure) → find_unit ps u.name ≡ Some u → has_adjoint m ps head u.name ≡ true → IsAdjointUnit schedules m ps head vars outvars u (made u)
+  pub pairs : (u : Procedure) → find_unit ps u.name ≡ Some u → has_pair m ps head u.name ≡ true → IsForthUnit schedules m ps u (forth u) × IsBackUnit schedules m ps head u (back u)
 
 -- the same of a program with its line numbers
 abbrev pub HasShape : (schedules : Bool) → ProgramMarks → List Procedure → Procedure → List Bool → List Bool → List Procedure → Type 0

@@ -9,7 +9,8 @@ use Rattle.def_sweep.specs.Naming.{tangent_text, Named, unit_names_for}
 use Rattle.def_names.specs.Numbers.{Vars}
 use Rattle.def_sweep.specs.Marked.{names_in}
 use Rattle.def_sweep.specs.Declared.{unit_name, helpers_from, unmarked, unit_at}
-use Rattle.def_sweep.specs.AdjointOf.{is_active_where, temps_in_where}
+use Rattle.def_sweep.specs.Occurrences.{is_active_where}
+use Rattle.def_sweep.specs.AdjointOf.{temps_in_where}
 use Rattle.def_sweep.specs.Names.{source_names, named_after}
 use Rattle.def_sweep.specs.Marking.{arrays_of}
 use Rattle.def_sweep.specs.Program.{calls_some, is_reached, made_unit_for}

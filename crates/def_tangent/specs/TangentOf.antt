@@ -4,7 +4,8 @@ use Rattle.adj_tree.specs.Code.{plain, shadow, helper, work, plus, minus, times,
 use Rattle.def_meaning.specs.Append.{◌+++◌, one}
 use Rattle.def_names.specs.Numbers.{Vars}
 use Rattle.def_sweep.specs.Marked.{code_if, count_of, own_or, work_var}
-use Rattle.def_sweep.specs.AdjointOf.{is_active_where, has_own_where, temps_in_where, temps_where}
+use Rattle.def_sweep.specs.Occurrences.{is_active_where}
+use Rattle.def_sweep.specs.AdjointOf.{has_own_where, temps_in_where, temps_where}
 
 -- ---- parts: the active subterms that are neither names nor elements, each with a helper for its tangent
 

@@ -1,5 +1,5 @@
 -- What each action of a reversal takes, from what the groups and the calls of the step unit and of its adjoint take.
-use Rattle.std.proofs.Common.{◌≡◌, ◌<◌, ◌≤◌, ◌^◌, ℕ, zero, suc, ◌+◌, ◌-◌, ◌*◌, Bool, true, false, List, ◌∷◌, ◌++◌, length, refl, sym, ap, ◌∙◌, subst, arith, int_eq}
+use Rattle.std.proofs.Common.{◌≡◌, ◌<◌, ◌≤◌, ◌^◌, ℕ, zero, suc, ◌+◌, ◌*◌, Bool, true, false, List, ◌∷◌, ◌++◌, length, refl, sym, ap, ◌∙◌, subst, arith, int_eq}
 use Rattle.std.specs.Prelude.{ℤ, pos, Ok, not}
 use Rattle.adj_tree.specs.Code.{Var, plain, helper, first, stride, count, turn, entry, kind, lower, upper, slots, plus, minus, times, is_same, var, bin, none, Mark, compare, choose, assign, unmarked, loop, runtime, give_action, Code, stop}
 use Rattle.adj_tree.proofs.Names.{nat_refl, name_refl}
@@ -11,7 +11,7 @@ use Rattle.adj_revolve.specs.declared.machine.Action.TheVariants.{Store as Put, 
 use Rattle.adj_revolve.specs.Schedule.{schedule_of}
 use Rattle.def_meaning.specs.Append.{◌+++◌, one}
 use Rattle.def_meaning.specs.Store.{Shape, Store, set}
-use Rattle.def_meaning.specs.Value.{Setting, value}
+use Rattle.def_meaning.specs.Value.{Setting}
 use Rattle.def_meaning.specs.Scene.{Scene}
 use Rattle.def_meaning.specs.Run.{Calls, trips, stepped}
 use Rattle.def_meaning.specs.Runtime.{steps_of, snapshots_of}

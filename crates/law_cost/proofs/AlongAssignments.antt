@@ -10,7 +10,8 @@ use Rattle.def_sweep.specs.Marks.{active_at}
 use Rattle.def_sweep.specs.Marked.{code_if, count_of, own_or, own_code, work_var, place}
 use Rattle.def_kernel.specs.Weights.{weight}
 use Rattle.def_sweep.specs.Plan.{Plan}
-use Rattle.def_sweep.specs.AdjointOf.{is_active_where, has_own_where, temps_in_where, shrunk_where, temps_where, back_where, times_power, adjoint_where}
+use Rattle.def_sweep.specs.Occurrences.{is_active_where}
+use Rattle.def_sweep.specs.AdjointOf.{has_own_where, temps_in_where, shrunk_where, temps_where, back_where, times_power, adjoint_where}
 use Rattle.def_sweep.specs.Emission.{forward_act, backward_act}
 use Rattle.law_cost.specs.Sweeps.{act_sweeps}
 use Rattle.law_cost.specs.Along.{BothCost}

@@ -1,4 +1,4 @@
--- What both sweeps take of lists of statements, along a run that is done and at its price, where no call is split.
+-- What both sweeps take of lists of statements, along a run that is done and at its price.
 use Rattle.std.proofs.Common.{◌≡◌, ◌<◌, ◌≤◌, ◌^◌, ℕ, zero, suc, ◌+◌, ◌*◌, Bool, true, false, List, [], ◌++◌, refl, sym, ap, ◌∙◌, subst, arith}
 use Rattle.std.specs.Prelude.{ℤ, pos, ◌&&◌, ◌||◌, Option, Some, None, IsTrue, Result, Ok, Err, if◌then◌else◌}
 use Rattle.adj_tree.specs.Code.{Var, plain, shadow, helper, name_eq, Term, Terms, Test, Mark, Act, assign, choose, loop, during, call, runtime, push_word, pop_word, Code, stop, step, none, Procedure}
@@ -31,9 +31,9 @@ use Rattle.def_sweep.specs.Rows.{is_empty, told_forward, told_backward, loop_for
 use Rattle.def_sweep.specs.Emission.{forward_act_with, forward_with, backward_act_with, backward_with}
 use Rattle.def_sweep.specs.ReversalCode.{row_forward, row_backward}
 use Rattle.def_sweep.specs.Callees.{nothing, is_plain, CalleeFacts}
-use Rattle.law_sweep.specs.Laws.{WayLaws, point_inside, last_point, ChoiceLaws, LoopLaws, WhileLaws, CallLaws, CallLawsBy, StepLaws, ActLawsBy, ListLawsBy}
+use Rattle.law_sweep.specs.Laws.{WayLaws, point_inside, last_point, ChoiceLaws, LoopLaws, WhileLaws, CallLaws, SplitLaws, CallLawsBy, StepLaws, ActLawsBy, ListLawsBy}
 use Rattle.law_sweep.specs.Passing.{plainly}
-use Rattle.law_sweep.specs.Kernel.{CallFits, LoopFits, ReversalFits, FitsBy, FitsListBy, AllText}
+use Rattle.law_sweep.specs.Kernel.{CallFits, LoopFits, ReversalFits, IsThere, FitsBy, FitsListBy, AllText}
 use Rattle.def_sweep.specs.MarkedUnits.{units_of}
 use Rattle.def_sweep.specs.Reversals.{ReversedLines, LoopRun}
 use Rattle.law_sweep.specs.Runs.{SameOn}
@@ -51,7 +51,6 @@ use Rattle.law_sweep.proofs.Tests.{most_small}
 use Rattle.law_sweep.proofs.Transposed.{Transposed, transposed_to}
 use Rattle.law_sweep.proofs.WhileSweeps as whiles
 use Rattle.law_sweep.proofs.WhileSweeps.{TestsSwept}
-use Rattle.law_sweep.proofs.Lists.{unsplit_there}
 use Rattle.law_cost.specs.Sweeps.{statements_of}
 use Rattle.law_cost.specs.Along.{BothCost}
 use Rattle.law_cost.proofs.Counting.{some_nodes, three_nodes}
@@ -558,10 +557,11 @@ module _ (sb : Bool) (extra : Act → ℕ) (more : (a : Act) → own_nodes a ≤
 
   -- what lists transpose, and calls that were done
   module _
-      (called : List ℕ → Type 0) (within : (name : List ℕ) → called name → IsTrue (inside name)) (unsplit : (i : ℕ) → m.split i ≡ false) (calls_told : CallsTell sb lines reps (λ n. IsTrue (inside n)) p)
+      (called : List ℕ → Type 0) (within : (name : List ℕ) → called name → IsTrue (inside name)) (calls_told : CallsTell sb lines reps (λ n. IsTrue (inside n)) p)
       (lists : (c : Code) (i d from : ℕ) (s e : Scene ℤ) (k left : ℕ) → EachCall called c → FitsListBy sc lines ps callees answers paired carried present m vars arrays handed i c → ListLawsBy sc callees w from i c → run p np c s k ≡ Done e left → Transposed q lines dual sh level xs w d present (λ x. writes handed x c) (is_plain m i c) from (last_point from i c) c (forward_with sc plan i d c) (backward_with sc plan i d c) s.store e.store)
       (keeps : (c : Code) (s e : Scene ℤ) (k left : ℕ) → run p np c s k ≡ Done e left → (x : Var) → writes handed x c ≡ false → (j : ℕ) → e.store x j ≡ s.store x j)
-      (calls : (name given : _) (i d line : ℕ) (s e : Scene ℤ) (k left : ℕ) → called name → CallLaws w i (callees name) given → CallFits ps vars arrays (callees name) name given → (present ≡ true → m.adjointed i ≡ true → answers name ≡ true) → (present ≡ true → m.kept i ≡ true → carried name ≡ true) → p np name (actuals_named given) line s k ≡ Done e left → FewIn sb lines reps e → ActCosts i d line (call name (actuals_named given)) s e k left)
+      (splits : (name given : _) (i d line : ℕ) (s e : Scene ℤ) (k left : ℕ) → called name → m.split i ≡ true → SplitLaws w i (callees name) given → CallFits ps vars arrays (callees name) name given → (present ≡ true → paired name ≡ true) → p np name (actuals_named given) line s k ≡ Done e left → FewIn sb lines reps e → ActCosts i d line (call name (actuals_named given)) s e k left)
+      (calls : (name given : _) (i d line : ℕ) (s e : Scene ℤ) (k left : ℕ) → called name → m.split i ≡ false → CallLaws w i (callees name) given → CallFits ps vars arrays (callees name) name given → (present ≡ true → m.adjointed i ≡ true → answers name ≡ true) → (present ≡ true → m.kept i ≡ true → carried name ≡ true) → p np name (actuals_named given) line s k ≡ Done e left → FewIn sb lines reps e → ActCosts i d line (call name (actuals_named given)) s e k left)
       (reversed : (x : List ℕ) (a b c : Term) (body : Code) (mark : Mark) (t : Step) (i d line : ℕ) (s e : Scene ℤ) (k left : ℕ) → reversed_by sc m.adjointed i body mark ≡ Some t → LoopFits lines line mark (units_of callees (Some t)) vars arrays handed x a b c body → ReversalFits (callees t.name) present (carried t.name) t → FitsListBy sc lines ps callees answers paired carried present m vars arrays handed (suc i) body → StepLaws callees w i (plain x) a b c body t → EachCall called body → act p np (loop (plain x) a b c body mark) line s k ≡ Done e left → FewIn sb lines reps e → LoopCostsBy x a b c body mark i d line s e k left (Some t)) where
     abbrev Inside : List ℕ → Type 0
     Inside n = IsTrue (inside n)
@@ -579,6 +579,11 @@ module _ (sb : Bool) (extra : Act → ℕ) (more : (a : Act) → own_nodes a ≤
               costs = inner fb laws.1 s0 e0 k0 l0 g fw0;
             })
         go (Some t) is lf fb laws = reversed x a b c body mark t i d line s e k left is lf fb.0 fb.1 laws n h fw
+
+    -- a call, by whether it is split
+    call_costs : (name given : _) (i d line : ℕ) (s e : Scene ℤ) (k left : ℕ) → called name → (b : Bool) → m.split i ≡ b → CallLawsBy b w i (callees name) given → CallFits ps vars arrays (callees name) name given → IsThere b (answers name) (paired name) (carried name) present (m.adjointed i) (m.kept i) → p np name (actuals_named given) line s k ≡ Done e left → FewIn sb lines reps e → ActCosts i d line (call name (actuals_named given)) s e k left
+    call_costs name given i d line s e k left n true is laws fits there h fw = splits name given i d line s e k left n is laws fits (λ pr. there pr laws.adjointed) h fw
+    call_costs name given i d line s e k left n false is laws fits there h fw = calls name given i d line s e k left n is laws fits there.0 there.1 h fw
 
     mutual
       act_costs : (a : Act) (i d line : ℕ) (s e : Scene ℤ) (k left : ℕ) → EachCall' called a → FitsBy sc lines ps callees answers paired carried present m vars arrays handed i line a → ActLawsBy sc callees w i a → act p np a line s k ≡ Done e left → FewIn sb lines reps e → ActCosts i d line a s e k left
@@ -613,9 +618,7 @@ module _ (sb : Bool) (extra : Act → ℕ) (more : (a : Act) → own_nodes a ≤
       act_costs (call name args) i d line s e k left n f laws h fw =
           let given = laws.0 in
           let is : args ≡ actuals_named given = laws.1.0 in
-          let own : CallLaws w i (callees name) given = subst (λ b. CallLawsBy b w i (callees name) given) (unsplit i) laws.1.1 in
-          let there = unsplit_there (m.split i) (answers name) (paired name) (carried name) present (m.adjointed i) (m.kept i) (unsplit i) f.1 in
-          subst (λ es. ActCosts i d line (call name es) s e k left) (sym is) (calls name given i d line s e k left n own (f.0 given is) there.0 there.1 (ap (λ es. p np name es line s k) (sym is) ∙ h) fw)
+          subst (λ es. ActCosts i d line (call name es) s e k left) (sym is) (call_costs name given i d line s e k left n (m.split i) refl laws.1.1 (f.0 given is) f.1 (ap (λ es. p np name es line s k) (sym is) ∙ h) fw)
       act_costs (runtime r) i d line s e k left n f laws h fw = absurd f
 
       pub list_costs : (c : Code) (i d from : ℕ) (s e : Scene ℤ) (k left : ℕ) → EachCall called c → FitsListBy sc lines ps callees answers paired carried present m vars arrays handed i c → ListLawsBy sc callees w from i c → run p np c s k ≡ Done e left → FewIn sb lines reps e → ListCosts from i d c s e k left

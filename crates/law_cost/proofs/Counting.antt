@@ -10,7 +10,8 @@ use Rattle.def_sweep.specs.Marked.{code_if, is_compound, count_of, own_or, own_c
 use Rattle.def_kernel.specs.Weights.{weight, weight_with_bodies, total_weight}
 use Rattle.law_kernel.proofs.Weighing.{cost_append}
 use Rattle.def_sweep.specs.Plan.{Plan, is_emitted, names_of, group, save_group, snapshot_group}
-use Rattle.def_sweep.specs.AdjointOf.{is_active_where, has_own_where, temps_in_where, shrunk_where, temps_where, back_where, times_power, adjoint_where}
+use Rattle.def_sweep.specs.Occurrences.{is_active_where}
+use Rattle.def_sweep.specs.AdjointOf.{has_own_where, temps_in_where, shrunk_where, temps_where, back_where, times_power, adjoint_where}
 use Rattle.def_sweep.specs.Rows.{is_empty, literal, push, pop, pushes, pops, told_forward, told_backward, loop_forward, loop_backward, while_forward, while_backward, resets, reset, with_shadows, adjoint_call}
 use Rattle.def_sweep.specs.Emission.{forward_act, forward, backward_act, backward, cleared, adjoint_body}
 use Rattle.law_cost.specs.Sweeps.{statements_of, act_sweeps, list_sweeps, body_sweeps}

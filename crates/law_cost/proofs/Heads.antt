@@ -1,4 +1,4 @@
--- What the run of the head's adjoint takes, where no call is split: what both sweeps do, and two statements for each dummy.
+-- What the run of the head's adjoint takes: what both sweeps do, and two statements for each dummy.
 use Rattle.std.proofs.Common.{◌≡◌, ◌≤◌, ℕ, suc, ◌+◌, ◌-◌, ◌*◌, Bool, true, false, List, [], ◌∷◌, refl, sym, ap, ◌∙◌, subst, arith, if◌then◌else◌}
 use Rattle.std.specs.Prelude.{ℤ, pos, length, reverse, ◌==◌, Some, None}
 use Rattle.adj_tree.specs.Code.{Var, plain, shadow, var_eq, none, lit, Term, Mark, Act, assign, loop, call, runtime, zero_array, Code, Procedure}
@@ -29,12 +29,13 @@ use Rattle.def_sweep.specs.Declared.{unmarked, unit_at}
 use Rattle.law_sweep.proofs.ScalarUnits.{outside}
 use Rattle.def_sweep.specs.Plan.{Plan, Schedules, actuals_named}
 use Rattle.def_sweep.specs.Emission.{cleared, forward_with, backward_with, adjoint_body_with}
-use Rattle.def_sweep.specs.Marking.{ProgramMarks, SplitsNothing, ProgramFacts, facts_in, callee_facts, callee_of, plan_in, first_statement, entry_point, end_point}
+use Rattle.def_names.specs.Variables.{variables}
+use Rattle.def_sweep.specs.Marking.{ProgramMarks, ProgramFacts, facts_in, callee_facts, callee_of, plan_in, first_statement, entry_point, end_point}
 use Rattle.def_sweep.specs.Names.{adjoint_name}
 use Rattle.law_sweep.specs.Passing.{plainly}
 use Rattle.def_sweep.specs.Program.{has_adjoint, has_pair, answers, is_carried_with, all_units, adjoint_unit_with, emitted_adjoint_with, emitted_units_with, emitted_for_with, emitted_program_with}
 use Rattle.law_sweep.specs.Runs.{SameOn}
-use Rattle.law_sweep.specs.Source.{arrays_in, SourceFitsWith}
+use Rattle.law_sweep.specs.Source.{variables_of, arrays_in, SourceFitsWith}
 use Rattle.law_sweep.specs.Theorem.{plan_of, ShapesFit}
 use Rattle.def_sweep.specs.Schedules.{schedules_by}
 use Rattle.law_sweep.proofs.Calls.{with_shadow_shapes}
@@ -150,7 +151,7 @@ pub record SpendsPriced (extra : Act → ℕ) (ps : List Procedure) (u : Procedu
 
 module _ (extra : Act → ℕ) (more : (a : Act) → own_nodes a ≤ extra a)
     (sb : Bool) (more_steps : sb ≡ true → (x : List ℕ) (a b c : Term) (at : ℕ) (name : List ℕ) (given : List (List ℕ)) (mark : Mark) → own_nodes (loop (plain x) a b c (one at (call name (actuals_named given))) mark) + length given ≤ extra (loop (plain x) a b c (one at (call name (actuals_named given))) mark)) (reps : ℕ) (rt : Rate sb reps)
-    (lines : ReversedLines) (w : ProgramFacts) (unsplit : SplitsNothing w.marks) (ps : List Procedure) (u : Procedure) (vars outvars : List Bool) (good : SourceFitsWith sb lines w ps u) (input given : List (Slot ℤ)) (fit : fits words u input ≡ true) (alike : AreAlike input given) (k used : ℕ) (output : Output ℤ) (done : run_unit words ps u input [] None k ≡ Done output used) where
+    (lines : ReversedLines) (w : ProgramFacts) (ps : List Procedure) (room : (i : ℕ) → w.marks.split i ≡ true → (name : List ℕ) (v : Procedure) → find_unit ps name ≡ Some v → (given : List (List ℕ)) → length (variables v) ≤ extra (call name (actuals_named given))) (u : Procedure) (vars outvars : List Bool) (good : SourceFitsWith sb lines w ps u) (input given : List (Slot ℤ)) (fit : fits words u input ≡ true) (alike : AreAlike input given) (k used : ℕ) (output : Output ℤ) (done : run_unit words ps u input [] None k ≡ Done output used) where
   abbrev m : ProgramMarks
   m = w.marks
 
@@ -209,7 +210,7 @@ module _ (extra : Act → ℕ) (more : (a : Act) → own_nodes a ≤ extra a)
       run_later ps k depth (omega arith) (on_words (plainly sh) 1) u.body (begin words ps u input) b.end k b.left 0 (ap (λ n. run (calls_of ps k) n u.body (begin words ps u input) k) (sym (head.setting_plain sb lines w ps u vars outvars good input given fit alike k used output done)) ∙ b.is) in
       let few_end : FewIn sb lines reps b.end = λ on. few_reversed lines reps b.end.events (subst (λ z. AllFew lines reps z) b.told (few on)) in
       let rate = rate_of rt.base rt.more calls in
-      let x = unit_costs sb extra more more_steps reps rt lines ps qs g (has_adjoint m ps u) (answers m ps u) (has_pair m ps u) (is_carried_with sb m ps u) (first_statement ps) (emitted.vars_of sb lines w ps u vars outvars good) (emitted.arrays sb lines w ps u vars outvars good) (emitted.emitted_fits sb lines w ps u vars outvars good) (λ name i. unsplit i)
+      let x = unit_costs sb extra more more_steps reps rt lines ps qs g (has_adjoint m ps u) (answers m ps u) (has_pair m ps u) (is_carried_with sb m ps u) (first_statement ps) (emitted.vars_of sb lines w ps u vars outvars good) (emitted.arrays sb lines w ps u vars outvars good) (emitted.emitted_fits sb lines w ps u vars outvars good) (λ name i is n v found ins given. subst (λ o. length (variables_of o) ≤ extra (call n (actuals_named given))) (sym found) (room i is n v found given))
       depth calls u.name u good.there (emitted.head_within sb lines w ps u vars outvars good) chains (with_shadow_shapes (m.shadowed u.name) (λ x. shape_of (extents_of words u before x))) 1
       (subst (λ o. ShapesFit (plan_of g own (arrays_in o)) sh) (sym good.there) shapes_fit) (begin words ps u input) b.end (k + 0) (b.left + 0) ran few_end in
       let here = head_there sb m ps u vars outvars good.known (found_there ps u.name u good.there).0 in
@@ -245,17 +246,17 @@ module _ (extra : Act → ℕ) (more : (a : Act) → own_nodes a ≤ extra a)
 -- in the program that is emitted
 pub emitted_priced : (extra : Act → ℕ) → ((a : Act) → own_nodes a ≤ extra a) →
     (sb : Bool) → (sb ≡ true → (x : List ℕ) (a b c : Term) (at : ℕ) (name : List ℕ) (given : List (List ℕ)) (mark : Mark) → own_nodes (loop (plain x) a b c (one at (call name (actuals_named given))) mark) + length given ≤ extra (loop (plain x) a b c (one at (call name (actuals_named given))) mark)) → (reps : ℕ) (rt : Rate sb reps) →
-    (lines : ReversedLines) (w : ProgramFacts) (ps : List Procedure) (head : ℕ) (vars outvars : List Bool) (u : Procedure) → unit_at head ps ≡ u ∷ [] → SourceFitsWith sb lines w ps u → SplitsNothing w.marks → (calls : ℕ) → CallsWithin ps u.name calls →
+    (lines : ReversedLines) (w : ProgramFacts) (ps : List Procedure) (head : ℕ) (vars outvars : List Bool) (u : Procedure) → unit_at head ps ≡ u ∷ [] → SourceFitsWith sb lines w ps u → ((i : ℕ) → w.marks.split i ≡ true → (name : List ℕ) (v : Procedure) → find_unit ps name ≡ Some v → (given : List (List ℕ)) → length (variables v) ≤ extra (call name (actuals_named given))) → (calls : ℕ) → CallsWithin ps u.name calls →
     (a : Procedure) → find_unit (emitted_program_with sb w.marks ps head vars outvars) (adjoint_name ps u) ≡ Some a →
     (input shadows : List (Slot ℤ)) → fits words u input ≡ true → AreAlike input shadows → (k used : ℕ) (output : Output ℤ) → run_unit words ps u input [] None k ≡ Done output used → (sb ≡ true → AllFew lines reps output.events) →
     (j spent : ℕ) (end : Output ℤ) → run_unit words (emitted_program_with sb w.marks ps head vars outvars) a (joined_by (shadow_flags (w.marks.shadowed u.name) u.dummies) input shadows) [] None j ≡ Done end spent →
     SpendsPriced extra ps u input (rate_of rt.base rt.more calls) used spent
-emitted_priced extra more sb more_steps reps rt lines w ps head vars outvars u is good unsplit calls chains a found input given fit alike k used output done few j spent end h =
+emitted_priced extra more sb more_steps reps rt lines w ps head vars outvars u is good room calls chains a found input given fit alike k used output done few j spent end h =
     let it : emitted_adjoint_with sb w.marks ps u vars outvars u ≡ cleared = ap (λ b. if b then cleared else adjoint_unit_with sb w.marks ps (all_units w.marks ps u) u [] []) (name_refl u.name) in
     let there = adjoint_found sb w.marks ps u vars outvars u.name u good.there (head_there sb w.marks ps u vars outvars good.known (found_there ps u.name u good.there).0) ∙ ap Some it in
     let one : Some cleared ≡ Some a = sym there ∙ ap (λ qs. find_unit qs (adjoint_name ps u)) (sym program) ∙ found in
     let same : cleared ≡ a = cc in
-    spends extra more sb more_steps reps rt lines w unsplit ps u vars outvars good input given fit alike k used output done calls chains few j spent end
+    spends extra more sb more_steps reps rt lines w ps room u vars outvars good input given fit alike k used output done calls chains few j spent end
     (ap (λ qs. run_unit words qs cleared (joined_by (shadow_flags (w.marks.shadowed u.name) u.dummies) input given) [] None j) (sym program)
     ∙ ap (λ z. run_unit words (emitted_program_with sb w.marks ps head vars outvars) z (joined_by (shadow_flags (w.marks.shadowed u.name) u.dummies) input given) [] None j) same ∙ h)
   where

@@ -26,6 +26,8 @@ pub mod Rows
 pub mod Prices
 pub mod CallPrices
 pub mod CallCosts
+pub mod SplitCosts
+pub mod AlongSplits
 pub mod AlongLists
 pub mod StepRuns
 pub mod Fair

@@ -1,7 +1,7 @@
 -- What the emitted program takes where marked loops are reversed by schedules. The numbers: a statement weighs 1 more than the nodes of its
 -- own expressions, and a loop whose body is one call besides as much as the call has nodes (`row_nodes`); no chain from the head has more
--- than `calls` calls, where a marked DO counts for nothing, since its step call does (`CallsWithin`); no call is split; `reps` repetitions serve each run of a
--- reversed loop that the head's run told of (`AllFew`).
+-- than `calls` calls, where a marked DO counts for nothing, since its step call does (`CallsWithin`); `reps` repetitions serve each run of a reversed loop
+-- that the head's run told of (`AllFew`). Where calls are split, no unit has more than `count` variables (`HaveVariables`).
 use Rattle.std.specs.Prelude.{◌≡◌, ℕ, ℤ, suc, ◌+◌, ◌*◌, ◌≤◌, length, List, [], ◌∷◌, Bool, true, Some, None}
 use Rattle.adj_tree.specs.Code.{Act, assign, choose, loop, during, call, runtime, Code, stop, step, Procedure}
 use Rattle.adj_tree.specs.Lines.{unlined}
@@ -23,6 +23,7 @@ use Rattle.def_sweep.specs.Reversals.{ReversedLines}
 use Rattle.law_sweep.specs.Source.{SourceFitsWith}
 use Rattle.def_adjoint.specs.Calls.{CallsWithin}
 use Rattle.def_adjoint.specs.Few.{AllFew}
+use Rattle.def_adjoint.specs.KernelSpends.{HaveVariables}
 use Rattle.def_adjoint.specs.Scheduled.{most_scheduled}
 
 -- the nodes of the actuals where a body is one call
@@ -38,6 +39,15 @@ row_nodes (loop x first last by body m) = own_nodes (loop x first last by body m
 row_nodes (during c body) = own_nodes (during c body)
 row_nodes (call name args) = own_nodes (call name args)
 row_nodes (runtime r) = own_nodes (runtime r)
+
+-- the same with room for split calls: the variables that a unit leaves on the tape are pushed and popped where it is called
+abbrev pub room_nodes : ℕ → Act → ℕ
+room_nodes count (assign x subs e) = row_nodes (assign x subs e)
+room_nodes count (choose c a b) = row_nodes (choose c a b)
+room_nodes count (loop x first last by body m) = row_nodes (loop x first last by body m)
+room_nodes count (during c body) = row_nodes (during c body)
+room_nodes count (call name args) = row_nodes (call name args) + count
+room_nodes count (runtime r) = row_nodes (runtime r)
 
 -- u ends with each statement paid so, and what was spent is at most so much to each unit of what that takes, and two for each dummy
 pub record SpendsRowPrice (ps : List Procedure) (u : Procedure) (input : List (Slot ℤ)) (calls reps used spent : ℕ) : Type 0 where
@@ -65,6 +75,15 @@ ScheduledSpends =
     (j spent : ℕ) (end : Output ℤ) → run_unit words (emitted_program_with schedules w.marks ps head vars outvars) a (joined_by (shadow_flags (w.marks.shadowed u.name) u.dummies) input shadows) [] None j ≡ Done end spent →
     spent ≤ most_scheduled weight calls reps used (length u.dummies)
 
+-- So much it is by marks that split calls, too, with the greatest number of variables of a unit besides the greatest weight.
+abbrev pub SplitSpends : Type 0
+SplitSpends =
+    (schedules : Bool) (lines : ReversedLines) (w : ProgramFacts) (ps : List Procedure) (head : ℕ) (vars outvars : List Bool) (u : Procedure) → unit_at head ps ≡ u ∷ [] → SourceFitsWith schedules lines w ps u → (weight : ℕ) → EachUnit (λ v. WeighsAtMost weight v.body) ps → (count : ℕ) → HaveVariables count ps → (calls reps : ℕ) → CallsWithin ps u.name calls →
+    (a : Procedure) → find_unit (emitted_program_with schedules w.marks ps head vars outvars) (adjoint_name ps u) ≡ Some a →
+    (input shadows : List (Slot ℤ)) → fits words u input ≡ true → AreAlike input shadows → (k used : ℕ) (output : Output ℤ) → run_unit words ps u input [] None k ≡ Done output used → AllFew lines reps output.events →
+    (j spent : ℕ) (end : Output ℤ) → run_unit words (emitted_program_with schedules w.marks ps head vars outvars) a (joined_by (shadow_flags (w.marks.shadowed u.name) u.dummies) input shadows) [] None j ≡ Done end spent →
+    spent ≤ most_scheduled (weight + count) calls reps used (length u.dummies)
+
 -- and in what differs from that in line numbers alone, as a text that is printed and read back does
 abbrev pub ReadBackSpends : Type 0
 ReadBackSpends =
@@ -73,6 +92,14 @@ ReadBackSpends =
     (input shadows : List (Slot ℤ)) → fits words u input ≡ true → AreAlike input shadows → (k used : ℕ) (output : Output ℤ) → run_unit words ps u input [] None k ≡ Done output used → AllFew lines reps output.events →
     (j spent : ℕ) (end : Output ℤ) → run_unit words qs a (joined_by (shadow_flags (w.marks.shadowed u.name) u.dummies) input shadows) [] None j ≡ Done end spent →
     spent ≤ most_scheduled weight calls reps used (length u.dummies)
+
+abbrev pub ReadBackSplitSpends : Type 0
+ReadBackSplitSpends =
+    (schedules : Bool) (lines : ReversedLines) (w : ProgramFacts) (ps : List Procedure) (head : ℕ) (vars outvars : List Bool) (u : Procedure) → unit_at head ps ≡ u ∷ [] → SourceFitsWith schedules lines w ps u → (weight : ℕ) → EachUnit (λ v. WeighsAtMost weight v.body) ps → (count : ℕ) → HaveVariables count ps → (calls reps : ℕ) → CallsWithin ps u.name calls →
+    (qs : List Procedure) → unlined (emitted_program_with schedules w.marks ps head vars outvars) ≡ unlined qs → (a : Procedure) → find_unit qs (adjoint_name ps u) ≡ Some a →
+    (input shadows : List (Slot ℤ)) → fits words u input ≡ true → AreAlike input shadows → (k used : ℕ) (output : Output ℤ) → run_unit words ps u input [] None k ≡ Done output used → AllFew lines reps output.events →
+    (j spent : ℕ) (end : Output ℤ) → run_unit words qs a (joined_by (shadow_flags (w.marks.shadowed u.name) u.dummies) input shadows) [] None j ≡ Done end spent →
+    spent ≤ most_scheduled (weight + count) calls reps used (length u.dummies)
 
 -- a round bound, with the number of variables or any other in it
 abbrev pub BoundIsWithin : Type 0

@@ -8,7 +8,7 @@
 #![tactic(auto)]
 
 ghost use Rattle.law_cost.specs.Spent.{EmittedSpends, BoundIsWithin, ChainsAreCounted};
-ghost use Rattle.law_cost.specs.KernelSpent.{KernelKeepsBound, RoundBoundIsKept, KernelChainsAreCounted};
+ghost use Rattle.law_cost.specs.KernelSpent.{KernelKeepsBound, KernelKeepsSplitBound, RoundBoundIsKept, RoundSplitBoundIsKept, KernelChainsAreCounted};
 
 /// Where no loop is marked, no statement weighs more than m, and no chain of calls from the head has more than d calls, the run of the head's
 /// adjoint takes at most (36 + 9 * d) * m statements for each one of the head's run, and two for each dummy: within 40 * m * (d + 2).
@@ -24,10 +24,13 @@ pub fn chains_law()
 
 /// Whether loops are marked or not, with m and d of the kernel, and with a number r of repetitions that serves each run of a reversed loop: at most
 /// (30 + 2 * (d + 1) * (r + 1)) * m statements for each one of the kernel's run of the head, and two for each dummy. That is within
-/// 100 * (m + w) * (d + 2) * (r + 2), where w is the greatest number of variables of a unit of the kernel.
+/// 100 * (m + w) * (d + 2) * (r + 2), where w is the greatest number of variables of a unit of the kernel. Where calls are split, m + w stands
+/// in place of m in the first, and the second holds as it is.
 pub fn kernel_law()
     ensures keeps { KernelKeepsBound }
+    ensures keeps_split { KernelKeepsSplitBound }
     ensures round { RoundBoundIsKept }
+    ensures round_split { RoundSplitBoundIsKept }
 {}
 
 /// How many calls a chain has at most in the kernel is counted where the program is checked.

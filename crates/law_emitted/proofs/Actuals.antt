@@ -8,6 +8,7 @@ use Rattle.def_meaning.specs.Rename.{rename_terms}
 use Rattle.def_names.specs.Variables.{rank}
 use Rattle.def_names.specs.CallFaults.{are_actuals_for}
 use Rattle.def_meaning.specs.Apart.{has_name, AreApart}
+use Rattle.def_sweep.specs.Callees.{nothing}
 use Rattle.def_sweep.specs.Naming.{Named, name_in}
 use Rattle.def_sweep.specs.MarkedProgram.{shadows_behind}
 use Rattle.def_names.specs.Numbers.{Vars}
@@ -120,3 +121,10 @@ module _ (u v : Procedure) (nm : Var → List ℕ) (own : Vars) (plain_rank : (x
           are_actuals_for v adj (if b then d ∷ name_in ns (shadow d) ∷ shadows_behind sh ns ds else d ∷ shadows_behind sh ns ds) (rename_terms named (if b then more (var (plain a)) (more (var (shadow a)) (with_shadows sh ds given)) else more (var (plain a)) (with_shadows sh ds given))) ≡ true
       go true e ih = rw (one, two e, ih) refl
       go false e ih = rw (one, ih) refl
+
+-- the call of a unit without shadows has the actuals as they are
+pub plainly_given : (u w : Procedure) (ds given : List (List ℕ)) → are_actuals_for u w ds (actuals_named given) ≡ true → with_shadows nothing ds given ≡ actuals_named given
+plainly_given u w [] [] h = refl
+plainly_given u w [] (a ∷ given) h = absurd cc
+plainly_given u w (d ∷ ds) [] h = absurd cc
+plainly_given u w (d ∷ ds) (a ∷ given) h = ap (λ l. more (var (plain a)) l) (plainly_given u w ds given (and_true (rank u a == rank w d) (are_actuals_for u w ds (actuals_named given)) h).1)

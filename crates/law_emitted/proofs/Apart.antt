@@ -12,7 +12,7 @@ use Rattle.def_sweep.specs.Marked.{names_in}
 use Rattle.def_sweep.specs.Declared.{helpers_from}
 use Rattle.def_names.proofs.Variables.{or_false, or_left, or_right}
 use Rattle.def_sweep.specs.Plan.{Plan, Schedules, Step}
-use Rattle.def_sweep.specs.Program.{helpers_among, works_used, temps_used, depth_used_with, tells_some_with, goes_back_with, reverses_by, any_step, has_slots, is_do, is_loop, loop_helpers_with, reversal_helpers, all_reversal_helpers, helpers_used_with, helpers_used}
+use Rattle.def_sweep.specs.Program.{helpers_among, works_used, temps_used, depth_used_with, tells_some_with, goes_back_with, reverses_by, any_step, has_slots, is_do, is_loop, loop_helpers_with, reversal_helpers, all_reversal_helpers, helpers_used_with, helpers_used, forth_slots, helpers_forth}
 use Rattle.law_emitted.proofs.Lists.{Each}
 use Rattle.law_emitted.proofs.Tables.{has_var, among, has_var-append, among-append, has_made, has_own, among_shadows, plain_no_shadow, AreHelpers, plain_no_helper, shadow_no_helper}
 
@@ -307,6 +307,28 @@ module _ (sc : Schedules) (p : Plan) (i : ℕ) (c : Code) where
       go : (b : Bool) → VarsApart ((if b then helper control 0 ∷ [] else []) ++ others)
       go true = of_role control (helper control 0 ∷ []) others (refl, tt) (others_roles (other_than control) (refl, (refl, (refl, (refl, (refl, refl))))) refl refl refl refl refl refl) (refl, tt) others_apart
       go false = others_apart
+
+  -- ---- those of a forward unit
+
+  slots_roles : (f : ℕ → Bool) (z : Schedules) → f (role_code slots) ≡ true → OfRoles f (forth_slots z p i c)
+  slots_roles f None h = tt
+  slots_roles f (Some reads) h = acts_roles f (Some reads) has_slots slots h
+
+  slots_apart : (z : Schedules) → VarsApart (forth_slots z p i c)
+  slots_apart None = tt
+  slots_apart (Some reads) = acts_apart (Some reads) has_slots slots
+
+  abbrev strides : List Var
+  strides = loops is_do stride ++ forth_slots sc p i c
+
+  strides_roles : (f : ℕ → Bool) → f (role_code stride) ≡ true → f (role_code slots) ≡ true → OfRoles f strides
+  strides_roles f h k = roles_append f (loops is_do stride) (forth_slots sc p i c) (loops_roles f is_do stride h) (slots_roles f sc k)
+
+  pub forth_apart : VarsApart (helpers_forth sc p i c)
+  forth_apart =
+      of_role count (loops is_loop count) (loops is_do first ++ strides) (loops_roles (is_role count) is_loop count refl) (roles_append (other_than count) (loops is_do first) strides (loops_roles (other_than count) is_do first refl) (strides_roles (other_than count) refl refl)) (loops_apart is_loop count)
+      (of_role first (loops is_do first) strides (loops_roles (is_role first) is_do first refl) (strides_roles (other_than first) refl refl) (loops_apart is_do first)
+      (of_role stride (loops is_do stride) (forth_slots sc p i c) (loops_roles (is_role stride) is_do stride refl) (slots_roles (other_than stride) sc refl) (loops_apart is_do stride) (slots_apart sc)))
 
 -- where no loop is reversed by a schedule
 pub used_apart : (p : Plan) (i : ℕ) (c : Code) → VarsApart (helpers_used p i c)

@@ -4,7 +4,8 @@ use Rattle.adj_tree.specs.Code.{Var, plain, shadow, helper, work, temp, plus, mi
 use Rattle.def_meaning.specs.Append.{◌+++◌, one}
 use Rattle.def_names.specs.Numbers.{Vars}
 use Rattle.def_sweep.specs.Marked.{code_if, count_of, own_code, place}
-use Rattle.def_sweep.specs.AdjointOf.{is_active_where, has_own_where, temps_in_where, shrunk_where, temps_where, back_where, adjoint_where}
+use Rattle.def_sweep.specs.Occurrences.{is_active_where}
+use Rattle.def_sweep.specs.AdjointOf.{has_own_where, temps_in_where, shrunk_where, temps_where, back_where, adjoint_where}
 
 -- a shadow, a work variable or a temporary
 abbrev pub IsMade : Var → Type 0

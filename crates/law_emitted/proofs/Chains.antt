@@ -1,8 +1,7 @@
 -- Chains of calls in what is emitted are no longer than in the source: an adjoint calls adjoints of what its unit calls, and carried units.
-use Rattle.std.proofs.Common.{◌≡◌, ℕ, suc, ◌≤◌, max, Bool, true, false, List, [], ◌∷◌, refl, ap, ◌∙◌, arith, if◌then◌else◌, sym, subst}
+use Rattle.std.proofs.Common.{◌≡◌, ℕ, suc, ◌≤◌, max, Bool, true, false, List, [], ◌∷◌, refl, ap, ◌∙◌, arith, if◌then◌else◌}
 use Rattle.std.specs.Prelude.{◌&&◌, not, Option, Some, None}
-use Rattle.adj_tree.specs.Code.{Var, plain, shadow, helper, first, stride, count, lower, name_eq, plus, Term, var, bin, Terms, none, Test, push_word, pop_word, zero_array, Mark, unmarked, with_count, count_from, Act, assign, choose, loop, during, call, runtime, Code, stop, step}
-use Rattle.adj_tree.proofs.Names.{name_refl}
+use Rattle.adj_tree.specs.Code.{Var, plain, shadow, helper, first, stride, count, lower, plus, Term, var, bin, Terms, none, Test, push_word, pop_word, zero_array, Mark, unmarked, with_count, count_from, Act, assign, choose, loop, during, call, runtime, Code, stop, step}
 use Rattle.def_meaning.specs.Append.{◌+++◌, one}
 use Rattle.law_meaning.specs.Common.{CallsInside', CallsInside}
 use Rattle.def_meaning.specs.Rename.{rename_mark, rename_act, rename}
@@ -12,16 +11,15 @@ use Rattle.def_names.specs.Calls.{with_mark, act_chain, chain}
 use Rattle.def_names.specs.Numbers.{Vars, next, behind}
 use Rattle.def_sweep.specs.Marks.{active_at}
 use Rattle.def_sweep.specs.Marked.{code_if}
-use Rattle.def_names.proofs.Variables.{or_left, or_right}
 use Rattle.def_sweep.specs.AdjointOf.{adjoint_where}
-use Rattle.def_sweep.specs.Plan.{Plan, is_emitted, names_of, actuals_named, save_group, snapshot_group, step_snapshot, found_or, Schedules, Step, reversed_by}
+use Rattle.def_sweep.specs.Plan.{Plan, is_emitted, names_of, actuals_named, save_group, snapshot_group, step_snapshot, found_or, Schedules, Step, reversed_by, ByStep}
 use Rattle.def_sweep.specs.ReversalCode.{at_turn, arm, advance, arms, reversal, slots_of, set_slots, push_slots, pop_slots, reversed_forward, reversed_backward, row_forward, row_backward}
-use Rattle.def_sweep.specs.Rows.{is_empty, push, pop, pushes, pops, literal, adjoint_call, told_forward, told_backward, loop_forward, loop_backward, while_forward, while_backward, push_own, pop_own, set_own}
+use Rattle.def_sweep.specs.Rows.{is_empty, push, pop, pushes, pops, literal, with_shadows, adjoint_call, told_forward, told_backward, loop_forward, loop_backward, while_forward, while_backward, push_own, pop_own, set_own}
 use Rattle.def_sweep.specs.Emission.{forward_act_with, forward_with, backward_act_with, backward_with, cleared, adjoint_body_with}
-use Rattle.def_sweep.proofs.UnsplitRows.{unsplit_forward, unsplit_backward}
-use Rattle.def_sweep.specs.Program.{calls_act, calls_in, turns_act, turns_in}
+use Rattle.def_sweep.specs.SplitRows.{forth_body, back_body}
 use Rattle.law_emitted.proofs.Lists.{Each, each_append}
-use Rattle.law_emitted.proofs.StepCalls.{step_body, step_mark, from_keep, from_turn, from_advance}
+use Rattle.law_emitted.proofs.StepCalls.{step_body, from_keep, from_turn, from_advance}
+use Rattle.law_emitted.proofs.Calling.{MayCall', MayCall}
 use Rattle.law_emitted.proofs.Assigned.{AreMaking, making_adjoint}
 
 -- a mark makes no chain shorter
@@ -108,7 +106,7 @@ module _ (f g : Name → ℕ) (inside : Name → Bool) (less : (x : Name) → in
 
 -- ---- the sweeps of a unit
 
-module _ (f g : Name → ℕ) (sc : Schedules) (p : Plan) (unsplit : (i : ℕ) → p.marks.split i ≡ false) (n : ℕ) where
+module _ (f g : Name → ℕ) (sc : Schedules) (p : Plan) (n : ℕ) where
   low_push : (line : ℕ) (x : List ℕ) → chain f (push p line x) ≤ n
   low_push line x = omega arith
 
@@ -206,26 +204,39 @@ module _ (f g : Name → ℕ) (sc : Schedules) (p : Plan) (unsplit : (i : ℕ) �
         let counted = set_slots_low line k m (set_own line (helper count k) (literal 0) (save +++ (keep +++ turned))) (omega arith) in
         omega arith
 
-  -- from what kept calls name, and from the adjoints of what adjointed calls name, chains are no longer
-  abbrev pub Kept : (Name → Bool) → Type 0
-  Kept called = (x : Name) → called x ≡ true → f x ≤ g x
+  -- from what is called, and from what is made of it, chains are no longer
+  abbrev pub KeptLow : Name → Type 0
+  KeptLow x = f x ≤ g x
 
-  abbrev pub Adjointed : (Name → Bool) → Type 0
-  Adjointed called = (x : Name) → called x ≡ true → f (p.callees x).adjoint ≤ g x
+  abbrev pub AdjointLow : Name → Type 0
+  AdjointLow x = f (p.callees x).adjoint ≤ g x
 
-  call_low : (i d line : ℕ) (name : Name) (args : Terms) → g name ≤ n → Kept (λ x. calls_act p.marks.kept x i (call name args)) → Adjointed (λ x. calls_act p.marks.adjointed x i (call name args)) → (chain f (forward_act_with sc p i d line (call name args)) ≤ n) × (chain f (backward_act_with sc p i d line (call name args)) ≤ n)
-  call_low i d line name args h kept adjointed =
+  abbrev pub PairLow : Name → Type 0
+  PairLow x = (f (p.callees x).forth ≤ g x) × (f (p.callees x).back ≤ g x)
+
+  abbrev Calls' : ℕ → Act → Type 0
+  Calls' i a = MayCall' KeptLow AdjointLow PairLow sc p.marks.kept p.marks.adjointed p.marks.split i a
+
+  abbrev pub Calls : ℕ → Code → Type 0
+  Calls i c = MayCall KeptLow AdjointLow PairLow sc p.marks.kept p.marks.adjointed p.marks.split i c
+
+  low_either : (b : Bool) (c d : Code) → (b ≡ true → chain f c ≤ n) → (b ≡ false → chain f d ≤ n) → chain f (if b then c else d) ≤ n
+  low_either true c d h k = h refl
+  low_either false c d h k = k refl
+
+  call_low : (i d line : ℕ) (name : Name) (args : Terms) → g name ≤ n → Calls' i (call name args) → (chain f (forward_act_with sc p i d line (call name args)) ≤ n) × (chain f (backward_act_with sc p i d line (call name args)) ≤ n)
+  call_low i d line name args h may =
       let callee = p.callees name in (
-        subst (λ c. chain f c ≤ n) (sym (unsplit_forward sc p i d line name args (unsplit i)))
-            (low_if f n (is_emitted p.marks i) _ (λ e.
-            low_append f n (pushes p line (save_group p.marks i callee (names_of args))) _ (low_pushes line (save_group p.marks i callee (names_of args)))
+        low_if f n (is_emitted p.marks i) _ (λ e.
+            low_either (p.marks.split i) (one line (call callee.forth args)) _ (λ s. let l = (may.1.1 s).1.0 in omega arith)
+            (λ u. low_append f n (pushes p line (save_group p.marks i callee (names_of args))) _ (low_pushes line (save_group p.marks i callee (names_of args)))
             (low_append f n (code_if (p.marks.adjointed i) _) _ (low_if f n (p.marks.adjointed i) _ (λ t. low_pushes line (snapshot_group callee (names_of args))))
-            (low_if f n (p.marks.kept i) (one line (call name args)) (λ t. let l = kept name (rw (t, name_refl name) refl) in omega arith))))),
-        subst (λ c. chain f c ≤ n) (sym (unsplit_backward sc p i d line name args (unsplit i)))
-            (low_if f n (is_emitted p.marks i) _ (λ e.
-            low_append f n (code_if (p.marks.adjointed i) _) _
+            (low_if f n (p.marks.kept i) (one line (call name args)) (λ t. let l = may.0 t u in omega arith))))),
+        low_if f n (is_emitted p.marks i) _ (λ e.
+            low_either (p.marks.split i) (one line (call callee.back (with_shadows callee.shadowed callee.dummies (names_of args)))) _ (λ s. let l = (may.1.1 s).1.1 in omega arith)
+            (λ u. low_append f n (code_if (p.marks.adjointed i) _) _
             (low_if f n (p.marks.adjointed i) _ (λ t.
-            let l = adjointed name (rw (t, name_refl name) refl) in
+            let l = may.1.0 t u in
             low_append f n (pops p line (snapshot_group callee (names_of args))) (one line (adjoint_call callee (names_of args))) (low_pops line (snapshot_group callee (names_of args))) (omega arith)))
             (low_pops line (save_group p.marks i callee (names_of args))))),
       )
@@ -238,22 +249,22 @@ module _ (f g : Name → ℕ) (sc : Schedules) (p : Plan) (unsplit : (i : ℕ) �
   rows_back i d line x body o = found_or o (loop_backward (is_empty (backward_with sc p (suc i) (suc d) body)) (suc d) line (plain x) (backward_with sc p (suc i) (suc d) body)) (λ s. row_backward p i (suc d) line x s)
 
   -- the step call of a loop that is reversed
-  step_low : (i : ℕ) (body : Code) (m : Mark) (s : Step) → reversed_by sc p.marks.adjointed i body m ≡ Some s → chain g body ≤ n → Adjointed (λ x. calls_in p.marks.adjointed x (suc i) body) → (g s.name ≤ n) × (f (p.callees s.name).adjoint ≤ n)
-  step_low i body m s e = step_body (λ c s. chain g c ≤ n → Adjointed (λ x. calls_in p.marks.adjointed x (suc i) c) → (g s.name ≤ n) × (f (p.callees s.name).adjoint ≤ n)) there sc p.marks.adjointed i body m s e
+  step_low : (i : ℕ) (body : Code) (m : Mark) (s : Step) → reversed_by sc p.marks.adjointed i body m ≡ Some s → chain g body ≤ n → g s.name ≤ n
+  step_low i body m s e = step_body (λ c s. chain g c ≤ n → g s.name ≤ n) there sc p.marks.adjointed i body m s e
     where
-      there : (l : ℕ) (name : Name) (args : Terms) (read : Vars) (k : Mark) → chain g (step l (call name args) stop) ≤ n → Adjointed (λ x. calls_in p.marks.adjointed x (suc i) (step l (call name args) stop)) → (g name ≤ n) × (f (p.callees name).adjoint ≤ n)
-      there l name args read k h adjointed = let l = adjointed name (rw ((step_mark sc p.marks.adjointed i body m s e).1, name_refl name) refl) in (omega arith, omega arith)
+      there : (l : ℕ) (name : Name) (args : Terms) (read : Vars) (k : Mark) → chain g (step l (call name args) stop) ≤ n → g name ≤ n
+      there l name args read k h = omega arith
 
-  rows_low : (i d line : ℕ) (x : Name) (a b c : Term) (body : Code) (m : Mark) (o : Option Step) → reversed_by sc p.marks.adjointed i body m ≡ o → chain g body ≤ n → Kept (λ y. calls_in p.marks.kept y (suc i) body) → Adjointed (λ y. calls_in p.marks.adjointed y (suc i) body) → Kept (λ y. found_or o (turns_in sc p.marks.adjointed y (suc i) body) (λ s. name_eq y s.name)) →
-      (Kept (λ y. turns_in sc p.marks.adjointed y (suc i) body) → (chain f (forward_with sc p (suc i) (suc d) body) ≤ n) × (chain f (backward_with sc p (suc i) (suc d) body) ≤ n)) → (chain f (rows_forth i d line x a b c body o) ≤ n) × (chain f (rows_back i d line x body o) ≤ n)
-  rows_low i d line x a b c body m None e h kept adjointed turned rest =
-      let inside = rest turned in
+  rows_low : (i d line : ℕ) (x : Name) (a b c : Term) (body : Code) (m : Mark) (o : Option Step) → reversed_by sc p.marks.adjointed i body m ≡ o → chain g body ≤ n → ByStep o (Unit {0}) (λ s. KeptLow s.name × AdjointLow s.name) →
+      (chain f (forward_with sc p (suc i) (suc d) body) ≤ n) × (chain f (backward_with sc p (suc i) (suc d) body) ≤ n) → (chain f (rows_forth i d line x a b c body o) ≤ n) × (chain f (rows_back i d line x body o) ≤ n)
+  rows_low i d line x a b c body m None e h may inside =
       let idle = is_empty (backward_with sc p (suc i) (suc d) body) in
       (loop_forward_low idle (suc d) line (plain x) a b c (forward_with sc p (suc i) (suc d) body) inside.0, loop_backward_low idle (suc d) line (plain x) (backward_with sc p (suc i) (suc d) body) inside.1)
-  rows_low i d line x a b c body m (Some s) e h kept adjointed turned rest =
+  rows_low i d line x a b c body m (Some s) e h may inside =
       let callee = p.callees s.name in
-      let known = step_low i body m s e h adjointed in
-      let own = turned s.name (name_refl s.name) in
+      let known = step_low i body m s e h in
+      let own = may.0 in
+      let back = may.1 in
       let plain_call = one line (call s.name (actuals_named s.given)) in
       let saves = save_group p.marks i callee s.given in
       let shot = step_snapshot callee s.read s.given in (
@@ -262,47 +273,47 @@ module _ (f g : Name → ℕ) (sc : Schedules) (p : Plan) (unsplit : (i : ℕ) �
       )
 
   mutual
-    act_low : (i d line : ℕ) (a : Act) → act_chain g a ≤ n → Kept (λ x. calls_act p.marks.kept x i a) → Adjointed (λ x. calls_act p.marks.adjointed x i a) → Kept (λ x. turns_act sc p.marks.adjointed x i a) → (chain f (forward_act_with sc p i d line a) ≤ n) × (chain f (backward_act_with sc p i d line a) ≤ n)
-    act_low i d line (assign (plain x) subs e) h kept adjointed turned = (
+    act_low : (i d line : ℕ) (a : Act) → act_chain g a ≤ n → Calls' i a → (chain f (forward_act_with sc p i d line a) ≤ n) × (chain f (backward_act_with sc p i d line a) ≤ n)
+    act_low i d line (assign (plain x) subs e) h may = (
       low_if f n (p.marks.kept i) _ (λ t. low_append f n (code_if (p.marks.saved i (plain x)) (one line (runtime (push_word (plain x) subs)))) (one line (assign (plain x) subs e)) (low_one (p.marks.saved i (plain x)) line (runtime (push_word (plain x) subs)) refl) (omega arith)),
       low_append f n (code_if (p.marks.kept i && p.marks.saved i (plain x)) (one line (runtime (pop_word (plain x) subs)))) (code_if (p.marks.adjointed i) (adjoint_where (active_at p.marks i) x subs e line)) (low_one (p.marks.kept i && p.marks.saved i (plain x)) line (runtime (pop_word (plain x) subs)) refl)
           (low_if f n (p.marks.adjointed i) (adjoint_where (active_at p.marks i) x subs e line) (λ t. low_making f n (adjoint_where (active_at p.marks i) x subs e line) (making_adjoint (active_at p.marks i) x subs e line))),
     )
-    act_low i d line (assign (shadow x) subs e) h kept adjointed turned = (omega arith, omega arith)
-    act_low i d line (assign (helper r k) subs e) h kept adjointed turned = (omega arith, omega arith)
-    act_low i d line (choose c a b) h kept adjointed turned =
-        let first = list_low (suc i) d a (omega arith) (λ x t. kept x (or_left (calls_in p.marks.kept x (suc i) a) (calls_in p.marks.kept x (behind (suc i) a) b) t)) (λ x t. adjointed x (or_left (calls_in p.marks.adjointed x (suc i) a) (calls_in p.marks.adjointed x (behind (suc i) a) b) t)) (λ x t. turned x (or_left (turns_in sc p.marks.adjointed x (suc i) a) (turns_in sc p.marks.adjointed x (behind (suc i) a) b) t)) in
-        let other = list_low (behind (suc i) a) d b (omega arith) (λ x t. kept x (or_right (calls_in p.marks.kept x (suc i) a) (calls_in p.marks.kept x (behind (suc i) a) b) t)) (λ x t. adjointed x (or_right (calls_in p.marks.adjointed x (suc i) a) (calls_in p.marks.adjointed x (behind (suc i) a) b) t)) (λ x t. turned x (or_right (turns_in sc p.marks.adjointed x (suc i) a) (turns_in sc p.marks.adjointed x (behind (suc i) a) b) t)) in
+    act_low i d line (assign (shadow x) subs e) h may = (omega arith, omega arith)
+    act_low i d line (assign (helper r k) subs e) h may = (omega arith, omega arith)
+    act_low i d line (choose c a b) h may =
+        let first = list_low (suc i) d a (omega arith) may.0 in
+        let other = list_low (behind (suc i) a) d b (omega arith) may.1 in
         let idle = is_empty (backward_with sc p (suc i) d a) && is_empty (backward_with sc p (behind (suc i) a) d b) in
         let there = told_forward_low idle line (forward_with sc p (suc i) d a) 1 first.0 in
         let back = told_forward_low idle line (forward_with sc p (behind (suc i) a) d b) 0 other.0 in (
           low_if f n (is_emitted p.marks i) (one line (choose c (told_forward idle line (forward_with sc p (suc i) d a) 1) (told_forward idle line (forward_with sc p (behind (suc i) a) d b) 0))) (λ e. omega arith),
           low_if f n (is_emitted p.marks i) _ (λ e. told_backward_low idle line (backward_with sc p (suc i) d a) (backward_with sc p (behind (suc i) a) d b) first.1 other.1),
         )
-    act_low i d line (loop (plain x) a b c body m) h kept adjointed turned =
+    act_low i d line (loop (plain x) a b c body m) h may =
         let grows = marked_grows m (chain g body) in
-        let rows = rows_low i d line x a b c body m (reversed_by sc p.marks.adjointed i body m) refl (omega arith) kept adjointed turned (λ t. list_low (suc i) (suc d) body (omega arith) kept adjointed t) in (
+        let rows = rows_low i d line x a b c body m (reversed_by sc p.marks.adjointed i body m) refl (omega arith) may.0 (list_low (suc i) (suc d) body (omega arith) may.1) in (
           low_if f n (is_emitted p.marks i) _ (λ e. low_append f n (code_if (p.marks.saved i (plain x)) (one line (runtime (push_word (plain x) none)))) _ (low_one (p.marks.saved i (plain x)) line (runtime (push_word (plain x) none)) refl) rows.0),
           low_if f n (is_emitted p.marks i) _ (λ e.
               low_append f n (rows_back i d line x body (reversed_by sc p.marks.adjointed i body m)) _ rows.1
               (low_append f n (code_if (p.marks.saved i (plain x)) (one line (runtime (pop_word (plain x) none)))) _ (low_one (p.marks.saved i (plain x)) line (runtime (pop_word (plain x) none)) refl) (low_one _ line (assign (shadow x) none (literal 0)) refl))),
         )
-    act_low i d line (loop (shadow x) a b c body m) h kept adjointed turned = (omega arith, omega arith)
-    act_low i d line (loop (helper r k) a b c body m) h kept adjointed turned = (omega arith, omega arith)
-    act_low i d line (during c body) h kept adjointed turned =
-        let inside = list_low (suc i) (suc d) body h kept adjointed turned in
+    act_low i d line (loop (shadow x) a b c body m) h may = (omega arith, omega arith)
+    act_low i d line (loop (helper r k) a b c body m) h may = (omega arith, omega arith)
+    act_low i d line (during c body) h may =
+        let inside = list_low (suc i) (suc d) body h may in
         let idle = is_empty (backward_with sc p (suc i) (suc d) body) in (
           low_if f n (is_emitted p.marks i) _ (λ e. while_forward_low idle (suc d) line c (forward_with sc p (suc i) (suc d) body) inside.0),
           low_if f n (is_emitted p.marks i) _ (λ e. while_backward_low idle (suc d) line (backward_with sc p (suc i) (suc d) body) inside.1),
         )
-    act_low i d line (call name args) h kept adjointed turned = call_low i d line name args h kept adjointed
-    act_low i d line (runtime r) h kept adjointed turned = (omega arith, omega arith)
+    act_low i d line (call name args) h may = call_low i d line name args h may
+    act_low i d line (runtime r) h may = (omega arith, omega arith)
 
-    list_low : (i d : ℕ) (c : Code) → chain g c ≤ n → Kept (λ x. calls_in p.marks.kept x i c) → Adjointed (λ x. calls_in p.marks.adjointed x i c) → Kept (λ x. turns_in sc p.marks.adjointed x i c) → (chain f (forward_with sc p i d c) ≤ n) × (chain f (backward_with sc p i d c) ≤ n)
-    list_low i d stop h kept adjointed turned = (omega arith, omega arith)
-    list_low i d (step line a rest) h kept adjointed turned =
-        let here = act_low i d line a (omega arith) (λ x t. kept x (or_left (calls_act p.marks.kept x i a) (calls_in p.marks.kept x (next i a) rest) t)) (λ x t. adjointed x (or_left (calls_act p.marks.adjointed x i a) (calls_in p.marks.adjointed x (next i a) rest) t)) (λ x t. turned x (or_left (turns_act sc p.marks.adjointed x i a) (turns_in sc p.marks.adjointed x (next i a) rest) t)) in
-        let later = list_low (next i a) d rest (omega arith) (λ x t. kept x (or_right (calls_act p.marks.kept x i a) (calls_in p.marks.kept x (next i a) rest) t)) (λ x t. adjointed x (or_right (calls_act p.marks.adjointed x i a) (calls_in p.marks.adjointed x (next i a) rest) t)) (λ x t. turned x (or_right (turns_act sc p.marks.adjointed x i a) (turns_in sc p.marks.adjointed x (next i a) rest) t)) in (
+    list_low : (i d : ℕ) (c : Code) → chain g c ≤ n → Calls i c → (chain f (forward_with sc p i d c) ≤ n) × (chain f (backward_with sc p i d c) ≤ n)
+    list_low i d stop h may = (omega arith, omega arith)
+    list_low i d (step line a rest) h may =
+        let here = act_low i d line a (omega arith) may.0 in
+        let later = list_low (next i a) d rest (omega arith) may.1 in (
           low_append f n (forward_act_with sc p i d line a) (forward_with sc p (next i a) d rest) here.0 later.0,
           low_append f n (backward_with sc p (next i a) d rest) (backward_act_with sc p i d line a) later.1 here.1,
         )
@@ -315,8 +326,14 @@ module _ (f g : Name → ℕ) (sc : Schedules) (p : Plan) (unsplit : (i : ℕ) �
       go true = omega arith
       go false = omega arith
 
-  -- so in the body of an adjoint
-  pub body_low : (i line : ℕ) (c : Code) (at_turn at_end : List (List ℕ)) → chain g c ≤ n → Kept (λ x. calls_in p.marks.kept x i c) → Adjointed (λ x. calls_in p.marks.adjointed x i c) → Kept (λ x. turns_in sc p.marks.adjointed x i c) → chain f (adjoint_body_with sc p i line c at_turn at_end) ≤ n
-  body_low i line c at_turn at_end h kept adjointed turned =
-      let both = list_low i 0 c h kept adjointed turned in
+  -- so in the bodies of what is made of a unit
+  pub body_low : (i line : ℕ) (c : Code) (at_turn at_end : List (List ℕ)) → chain g c ≤ n → Calls i c → chain f (adjoint_body_with sc p i line c at_turn at_end) ≤ n
+  body_low i line c at_turn at_end h may =
+      let both = list_low i 0 c h may in
       low_append f n (forward_with sc p i 0 c) _ both.0 (low_append f n (cleared p line at_turn) _ (cleared_low line at_turn) (low_append f n (backward_with sc p i 0 c) (cleared p line at_end) both.1 (cleared_low line at_end)))
+
+  pub forth_low : (i line : ℕ) (left : List (List ℕ)) (c : Code) → chain g c ≤ n → Calls i c → chain f (forth_body sc p i line left c) ≤ n
+  forth_low i line left c h may = low_append f n (forward_with sc p i 0 c) (pushes p line left) (list_low i 0 c h may).0 (low_pushes line left)
+
+  pub back_low : (i line : ℕ) (left : List (List ℕ)) (c : Code) → chain g c ≤ n → Calls i c → chain f (back_body sc p i line left c) ≤ n
+  back_low i line left c h may = low_append f n (pops p line left) (backward_with sc p i 0 c) (low_pops line left) (list_low i 0 c h may).1

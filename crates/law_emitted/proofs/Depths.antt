@@ -10,7 +10,8 @@ use Rattle.def_sweep.specs.Marks.{active_at}
 use Rattle.def_sweep.specs.Marked.{code_if, count_of, own_code, own_or, work_var, place, names_in}
 use Rattle.def_sweep.specs.Naming.{naming}
 use Rattle.def_sweep.specs.Declared.{unmarked, unit_at}
-use Rattle.def_sweep.specs.AdjointOf.{is_active_where, has_own_where, temps_in_where, shrunk_where, temps_where, back_where, adjoint_where}
+use Rattle.def_sweep.specs.Occurrences.{is_active_where}
+use Rattle.def_sweep.specs.AdjointOf.{has_own_where, temps_in_where, shrunk_where, temps_where, back_where, adjoint_where}
 use Rattle.def_sweep.specs.Plan.{Plan, is_emitted, names_of, actuals_named, save_group, snapshot_group, step_snapshot, found_or, Schedules, Step, reversed_by}
 use Rattle.def_sweep.specs.ReversalCode.{at_turn, arm, advance, arms, reversal, slots_of, set_slots, push_slots, pop_slots, reversed_forward, reversed_backward, row_forward, row_backward}
 use Rattle.def_sweep.specs.Rows.{is_empty, push, pop, pushes, pops, literal, with_shadows, adjoint_call, told_forward, told_backward, loop_forward, loop_backward, while_forward, while_backward, push_own, pop_own, set_own, resets, reset}

@@ -1,8 +1,8 @@
--- Which dummies emitted units hand back: carried units those that they hand back in the source, and adjoints of their unit's dummies no others.
+-- Which dummies emitted units hand back: carried units those that they hand back in the source, and what is made of a unit of its dummies no others.
 use Rattle.std.proofs.Common.{◌≡◌, ℕ, zero, suc, Bool, true, false, List, [], ◌∷◌, map, refl, sym, ap, ◌∙◌, subst, if◌then◌else◌}
-use Rattle.std.specs.Prelude.{◌&&◌, ◌||◌, Option, Some, None}
+use Rattle.std.specs.Prelude.{◌&&◌, ◌||◌, not, Option, Some, None}
 use Rattle.adj_tree.specs.Code.{Var, var_eq, plain, shadow, helper, turn, name_eq, var, Terms, none, more, Mark, Act, assign, choose, loop, during, call, runtime, Code, stop, step, Procedure}
-use Rattle.adj_tree.proofs.Names.{name_refl}
+use Rattle.adj_tree.proofs.Names.{name_refl, name_same}
 use Rattle.def_text.specs.Written.{IsName, IsVariable, IsPlace, IsWrittenAct, IsWrittenCode, IsWrittenProcedure}
 use Rattle.def_meaning.specs.LeastSet.{Dummies, row_of, rounds, dummies_in_all}
 use Rattle.def_meaning.specs.Written.{find_unit, is_handed_back, act_writes, writes, write_rule, handed_back, is_written}
@@ -11,36 +11,39 @@ use Rattle.def_meaning.specs.Rename.{rename}
 use Rattle.def_meaning.proofs.Booleans.{or_more}
 use Rattle.def_meaning.proofs.LeastSets.{of_found, row_map}
 use Rattle.law_meaning.proofs.WriteSets.{handed_written}
+use Rattle.def_names.specs.CallFaults.{are_actuals_for}
 use Rattle.def_names.specs.Statements.{inner, statements}
 use Rattle.def_names.specs.Variables.{variables}
 use Rattle.def_kernel.specs.Form.{IsKernelAct, IsKernelCode}
 use Rattle.def_meaning.specs.Apart.{has_name}
-use Rattle.def_sweep.specs.Naming.{Named, name_in, naming}
+use Rattle.def_sweep.specs.Callees.{nothing}
+use Rattle.def_sweep.specs.Naming.{adjoint_text, Named, name_in, naming}
 use Rattle.def_names.specs.Numbers.{Vars, next, behind}
-use Rattle.def_sweep.specs.Marked.{names_in}
 use Rattle.def_sweep.specs.MarkedProgram.{shadows_behind}
-use Rattle.def_sweep.specs.Declared.{unmarked}
 use Rattle.def_names.proofs.Variables.{and_true, or_left, or_right}
-use Rattle.def_sweep.specs.Names.{adjoint_name}
-use Rattle.def_sweep.specs.Plan.{names_of, actuals_named, group, found_or, Schedules, Step, reversed_by, ByStep}
+use Rattle.def_sweep.specs.Names.{adjoint_name, forth_name, back_name}
+use Rattle.def_sweep.specs.Plan.{names_of, actuals_named, group, Schedules, Step, reversed_by, ByStep}
 use Rattle.def_sweep.specs.Rows.{with_shadows}
-use Rattle.def_sweep.specs.Emission.{adjoint_body_with}
-use Rattle.def_sweep.specs.Marking.{ProgramMarks, first_statement, callee_of, plan_in, SplitsNothing}
-use Rattle.def_sweep.specs.Program.{calls_act, calls_in, turns_act, turns_in, has_adjoint, is_carried_with, all_units, adjoint_names_with, adjoint_unit_with, emitted_adjoint_with, emitted_units_with, schedules_in}
+use Rattle.def_sweep.specs.SplitRows.{left_of}
+use Rattle.def_sweep.specs.Marking.{ProgramMarks, first_statement, callee_of, callee_in, dummy_set}
+use Rattle.def_sweep.specs.Program.{has_adjoint, has_pair, is_carried_with, all_units, left_by, emitted_units_with, schedules_in}
 use Rattle.law_sweep.specs.Source.{CallUnits}
 use Rattle.law_sweep.proofs.UnitLists.{found_there}
-use Rattle.law_sweep.proofs.EmittedUnits.{adjoint_found, carried_common}
+use Rattle.law_sweep.proofs.EmittedUnits.{adjoint_found, forth_found, back_found, carried_common}
 use Rattle.law_sweep.proofs.Variables.{dummy_among}
 use Rattle.law_emitted.proofs.Lists.{Each, each_front, each_behind, each_found}
-use Rattle.law_emitted.proofs.Texts.{actuals_given}
-use Rattle.law_emitted.proofs.Statements.{CallHasNone, call_of_unit}
-use Rattle.law_emitted.proofs.CheckedStepCalls.{turned_alone}
+use Rattle.law_emitted.proofs.Statements.{CallHasNone}
 use Rattle.law_emitted.proofs.StepCalls.{step_body}
-use Rattle.law_emitted.proofs.Carried.{kept_carried, turned_carried, adjointed_there}
-use Rattle.law_emitted.proofs.Actuals.{named_back}
-use Rattle.law_emitted.proofs.CallFaults.{IsSound, Cleared, names_for, keeps, name_apart, emitted_has}
+use Rattle.law_emitted.proofs.Calling.{MayCall', MayCall}
+use Rattle.law_emitted.proofs.Carried.{AreCarriedWith, HaveAdjoint, HavePair, its_calls}
+use Rattle.law_emitted.proofs.Following.{KnownCall, known_call, names_again}
+use Rattle.law_emitted.proofs.Makings.{Making, as_adjoint, as_forth, as_back, its_name, its_shadows, its_kept, its_saved, plan_with, its_plan, its_helpers, its_code, made, is_made, emitted_making, emitted_is_made, emitted_there, emitted_shadows}
+use Rattle.law_emitted.proofs.Actuals.{named_back, plainly_given}
+use Rattle.law_emitted.proofs.Sources.{UnitSound}
+use Rattle.law_emitted.proofs.Tables.{table_for}
+use Rattle.law_emitted.proofs.CallFaults.{IsSound, names_for, keeps, name_apart}
 use Rattle.law_emitted.proofs.RenamedWrites.{renamed_writes}
-use Rattle.law_emitted.proofs.Writing.{IsPlain, IsApart, no_given, CallWrites, Turned, KnownAct, Known, body_writes}
+use Rattle.law_emitted.proofs.Writing.{IsPlain, IsApart, no_given, CallWrites, Turned, KnownAct, Known, body_writes, forth_writes, back_writes}
 
 -- ---- what is handed back
 
@@ -120,9 +123,25 @@ module _ (f g : Dummies) (inside : List ℕ → Bool) (v : Var) (less : (name : 
 
 -- ---- the emitted program
 
-module _ (sb : Bool) (m : ProgramMarks) (ps : List Procedure) (head : Procedure) (vars outvars : List Bool) (named : Each (λ u. IsName u.name) ps) (known : CallUnits ps ps) (sound : Each (IsSound m ps) ps) where
+-- what is left on the tape that is a dummy is written
+of_left : (P : Type 0) (x : List ℕ) (w : Vars) (ds xs : List (List ℕ)) → has_name x ds ≡ true → (w (plain x) ≡ true → P) → Each (λ a. name_eq x a ≡ true → P) (left_of w ds xs)
+of_left P x w ds [] there f = tt
+of_left P x w ds (y ∷ xs) there f = go (not (has_name y ds) || w (plain y)) refl (of_left P x w ds xs there f)
+  where
+    written : (b c : Bool) → b ≡ true → (not b || c) ≡ true → c ≡ true
+    written true c h e = e
+    written false c h e = absurd cc
+
+    go : (b : Bool) → (not (has_name y ds) || w (plain y)) ≡ b → Each (λ a. name_eq x a ≡ true → P) (left_of w ds xs) → Each (λ a. name_eq x a ≡ true → P) (if b then y ∷ left_of w ds xs else left_of w ds xs)
+    go true e ih = (λ h. let same : x ≡ y = name_same x y h in f (ap (λ z. w (plain z)) same ∙ written (has_name y ds) (w (plain y)) (ap (λ z. has_name z ds) (sym same) ∙ there) e), ih)
+    go false e ih = ih
+
+module _ (sb : Bool) (m : ProgramMarks) (ps : List Procedure) (head : Procedure) (vars outvars : List Bool) (named : Each (λ u. IsName u.name) ps) (known : CallUnits ps ps) (sound : Each (IsSound sb m ps) ps) where
   abbrev qs : List Procedure
   qs = emitted_units_with sb m ps head vars outvars ps
+
+  abbrev units : List (List ℕ)
+  units = all_units m ps head
 
   abbrev sc : Schedules
   sc = schedules_in sb ps
@@ -130,80 +149,98 @@ module _ (sb : Bool) (m : ProgramMarks) (ps : List Procedure) (head : Procedure)
   abbrev g : Dummies
   g = handed_back ps
 
-  abbrev made : Procedure → Procedure
-  made u = emitted_adjoint_with sb m ps head vars outvars u
-
   pub common : HaveInCommon (is_carried_with sb m ps head) ps qs
   common = carried_common sb m ps head vars outvars known
 
   -- no more is handed back than in the source
   pub record HandBackNoMore (f : Dummies) : Type 0 where
     pub carried : (name : List ℕ) → is_carried_with sb m ps head name ≡ true → (v : Var) (args : Terms) → is_handed_back v (f name) args ≡ true → is_handed_back v (handed_back ps name) args ≡ true
-    pub adjoint : (name : List ℕ) (w : Procedure) → find_unit ps name ≡ Some w → has_adjoint m ps head name ≡ true → (v : Var) → IsApart v → (given : List (List ℕ)) → is_handed_back v (f (adjoint_name ps w)) (with_shadows (m.shadowed name) w.dummies given) ≡ true → is_handed_back v (handed_back ps name) (actuals_named given) ≡ true
+    pub of_made : (name : List ℕ) (w : Procedure) → find_unit ps name ≡ Some w → (k : Making) → is_made m ps head w k ≡ true → (v : Var) → IsApart v → (given : List (List ℕ)) → is_handed_back v (f (its_name ps w k)) (with_shadows (its_shadows m w k) w.dummies given) ≡ true → is_handed_back v (handed_back ps name) (actuals_named given) ≡ true
 
-  -- ---- what is known of a unit whose adjoint is emitted
+  -- ---- what is known of a unit of which something is made
 
-  module _ (f : Dummies) (back : HandBackNoMore f) (u : Procedure) where
-    named_known : SplitsNothing m → (i : ℕ) (name : List ℕ) (w : Procedure) (given : List (List ℕ)) → find_unit ps name ≡ Some w → (m.kept i ≡ true → is_carried_with sb m ps head name ≡ true) → (m.adjointed i ≡ true → has_adjoint m ps head name ≡ true) → CallWrites f g sc (plan_in m ps u) i name (actuals_named given)
-    named_known unsplit i name w given found kept adjointed = record {
-      kept = λ t v e. back.carried name (kept t) v (actuals_named given) e;
-      adjointed = λ t v apart.
-          subst (λ o. is_handed_back v (f (callee_of m ps name o).adjoint) (with_shadows (callee_of m ps name o).shadowed (callee_of m ps name o).dummies (names_of (actuals_named given))) ≡ true → is_handed_back v (g name) (actuals_named given) ≡ true) (sym found)
-          (subst (λ l. is_handed_back v (f (adjoint_name ps w)) (with_shadows (m.shadowed name) w.dummies l) ≡ true → is_handed_back v (g name) (actuals_named given) ≡ true) (sym (named_back given)) (back.adjoint name w found (adjointed t) v apart given));
-      groups = λ v dummies actuals.
-          subst (λ o. ((d : Var) → dummies d ≡ true → (callee_of m ps name o).written d ≡ true) → Each (λ a. var_eq v (plain a) ≡ true → is_handed_back v (g name) (actuals_named given) ≡ true) (group dummies actuals (callee_of m ps name o).dummies (names_of (actuals_named given)))) (sym found)
-          (λ h. subst (λ l. Each (λ a. var_eq v (plain a) ≡ true → is_handed_back v (g name) (actuals_named given) ≡ true) (group dummies actuals w.dummies l)) (sym (named_back given))
-          (group_each v dummies actuals (is_written ps w) (is_handed_back v (g name) (actuals_named given)) w.dummies given (λ d. h (plain d)) (λ e. subst (λ ws. is_handed_back v ws (actuals_named given) ≡ true) (sym (handed_written ps name w found)) e)));
-      own = λ k. no_given turn k (g name) given;
-      unsplit = unsplit i;
+  module _ (f : Dummies) (back : HandBackNoMore f) (u : Procedure) (kept : ℕ → Bool) (saved : ℕ → Vars) where
+    -- the call of what is made of a unit that is called
+    from_made : (name : List ℕ) (args : Terms) (c : KnownCall ps u name args) (k : Making) → is_made m ps head c.unit k ≡ true → (v : Var) → IsApart v → is_handed_back v (f (its_name ps c.unit k)) (with_shadows (its_shadows m c.unit k) c.unit.dummies (names_of args)) ≡ true → is_handed_back v (g name) args ≡ true
+    from_made name args c k there v apart e =
+        subst (λ l. is_handed_back v (g name) l ≡ true) (sym c.are)
+        (back.of_made name c.unit c.found k there v apart c.given (subst (λ l. is_handed_back v (f (its_name ps c.unit k)) (with_shadows (its_shadows m c.unit k) c.unit.dummies l) ≡ true) (ap names_of c.are ∙ named_back c.given) e))
+
+    adjoint_known : (name : List ℕ) (args : Terms) → KnownCall ps u name args → HaveAdjoint m ps head name → (v : Var) → IsApart v → is_handed_back v (f (callee_in m ps name).adjoint) (with_shadows (callee_in m ps name).shadowed (callee_in m ps name).dummies (names_of args)) ≡ true → is_handed_back v (g name) args ≡ true
+    adjoint_known name args c a v apart =
+        let same = (found_there ps name c.unit c.found).1 in
+        subst (λ o. is_handed_back v (f (callee_of m ps name o).adjoint) (with_shadows (callee_of m ps name o).shadowed (callee_of m ps name o).dummies (names_of args)) ≡ true → is_handed_back v (g name) args ≡ true) (sym c.found)
+        (subst (λ z. is_handed_back v (f (adjoint_name ps c.unit)) (with_shadows (m.shadowed z) c.unit.dummies (names_of args)) ≡ true → is_handed_back v (g name) args ≡ true) same (from_made name args c (as_adjoint [] []) (ap (has_adjoint m ps head) same ∙ a.0) v apart))
+
+    back_known : (name : List ℕ) (args : Terms) → KnownCall ps u name args → HavePair m ps head name → (v : Var) → IsApart v → is_handed_back v (f (callee_in m ps name).back) (with_shadows (callee_in m ps name).shadowed (callee_in m ps name).dummies (names_of args)) ≡ true → is_handed_back v (g name) args ≡ true
+    back_known name args c a v apart =
+        let same = (found_there ps name c.unit c.found).1 in
+        subst (λ o. is_handed_back v (f (callee_of m ps name o).back) (with_shadows (callee_of m ps name o).shadowed (callee_of m ps name o).dummies (names_of args)) ≡ true → is_handed_back v (g name) args ≡ true) (sym c.found)
+        (subst (λ z. is_handed_back v (f (back_name ps c.unit)) (with_shadows (m.shadowed z) c.unit.dummies (names_of args)) ≡ true → is_handed_back v (g name) args ≡ true) same (from_made name args c as_back (ap (has_pair m ps head) same ∙ a.0) v apart))
+
+    forth_known : (name : List ℕ) (args : Terms) → KnownCall ps u name args → HavePair m ps head name → (v : Var) → IsApart v → is_handed_back v (f (callee_in m ps name).forth) args ≡ true → is_handed_back v (g name) args ≡ true
+    forth_known name args c a v apart =
+        let same = (found_there ps name c.unit c.found).1 in
+        subst (λ o. is_handed_back v (f (callee_of m ps name o).forth) args ≡ true → is_handed_back v (g name) args ≡ true) (sym c.found)
+        (subst (λ l. is_handed_back v (f (forth_name ps c.unit)) l ≡ true → is_handed_back v (g name) args ≡ true) (plain_given name args c) (from_made name args c as_forth (ap (has_pair m ps head) same ∙ a.0) v apart))
+      where
+        plain_given : (name : List ℕ) (args : Terms) (c : KnownCall ps u name args) → with_shadows nothing c.unit.dummies (names_of args) ≡ args
+        plain_given name args c =
+            plainly_given u c.unit c.unit.dummies (names_of args) (subst (λ l. are_actuals_for u c.unit c.unit.dummies l ≡ true) (sym (names_again ps u name args c)) c.fit) ∙ names_again ps u name args c
+
+    -- what is pushed and popped for a call
+    groups_known : (name : List ℕ) (args : Terms) → KnownCall ps u name args → (v : Var) (dummies actuals : Vars) → ((d : Var) → dummies d ≡ true → (callee_in m ps name).written d ≡ true) → Each (λ a. var_eq v (plain a) ≡ true → is_handed_back v (g name) args ≡ true) (group dummies actuals (callee_in m ps name).dummies (names_of args))
+    groups_known name args c v dummies actuals =
+        subst (λ o. ((d : Var) → dummies d ≡ true → (callee_of m ps name o).written d ≡ true) → Each (λ a. var_eq v (plain a) ≡ true → is_handed_back v (g name) args ≡ true) (group dummies actuals (callee_of m ps name o).dummies (names_of args))) (sym c.found)
+        (λ h. subst (λ l. Each (λ a. var_eq v (plain a) ≡ true → is_handed_back v (g name) l ≡ true) (group dummies actuals c.unit.dummies (names_of l))) (sym c.are)
+        (subst (λ l. Each (λ a. var_eq v (plain a) ≡ true → is_handed_back v (g name) (actuals_named c.given) ≡ true) (group dummies actuals c.unit.dummies l)) (sym (named_back c.given))
+        (group_each v dummies actuals (is_written ps c.unit) (is_handed_back v (g name) (actuals_named c.given)) c.unit.dummies c.given (λ d. h (plain d)) (λ e. subst (λ ws. is_handed_back v ws (actuals_named c.given) ≡ true) (sym (handed_written ps name c.unit c.found)) e))))
+
+    call_known : (i : ℕ) (name : List ℕ) (args : Terms) → KnownCall ps u name args → MayCall' (AreCarriedWith sb m ps head) (HaveAdjoint m ps head) (HavePair m ps head) sc kept m.adjointed m.split i (call name args) → CallWrites f g sc (plan_with m ps u kept saved) i name args
+    call_known i name args c may = record {
+      kept = λ t s v e. back.carried name (may.0 t s) v args e;
+      adjointed = λ t s v apart e. adjoint_known name args c (may.1.0 t s) v apart e;
+      forth = λ s v apart e. forth_known name args c (may.1.1 s).1 v apart e;
+      back = λ s v apart e. back_known name args c (may.1.1 s).1 v apart e;
+      groups = λ v dummies actuals h. groups_known name args c v dummies actuals h;
+      own = λ k. subst (λ l. is_handed_back (helper turn k) (g name) l ≡ false) (sym c.are) (no_given turn k (g name) c.given);
     }
 
     -- the step call of a loop that is reversed by a schedule
-    step_turned : (i : ℕ) (body : Code) (mark : Mark) (s : Step) → reversed_by sc m.adjointed i body mark ≡ Some s → Each (CallHasNone ps u) (statements body) → IsWrittenCode body → IsKernelCode body → is_carried_with sb m ps head s.name ≡ true → Turned f g sc (plan_in m ps u) body s
-    step_turned i body mark s e = step_body (λ c s. Each (CallHasNone ps u) (statements c) → IsWrittenCode c → IsKernelCode c → is_carried_with sb m ps head s.name ≡ true → Turned f g sc (plan_in m ps u) c s) there sc m.adjointed i body mark s e
+    step_turned : (i : ℕ) (body : Code) (mark : Mark) (s : Step) → reversed_by sc m.adjointed i body mark ≡ Some s → Each (CallHasNone ps u) (statements body) → IsWrittenCode body → IsKernelCode body → AreCarriedWith sb m ps head s.name → HaveAdjoint m ps head s.name → Turned f g sc (plan_with m ps u kept saved) body s
+    step_turned i body mark s e = step_body (λ c s. Each (CallHasNone ps u) (statements c) → IsWrittenCode c → IsKernelCode c → AreCarriedWith sb m ps head s.name → HaveAdjoint m ps head s.name → Turned f g sc (plan_with m ps u kept saved) c s) there sc m.adjointed i body mark s e
       where
-        there : (line : ℕ) (name : List ℕ) (args : Terms) (read : Vars) (n : Mark) → Each (CallHasNone ps u) (statements (step line (call name args) stop)) → IsWrittenCode (step line (call name args) stop) → IsKernelCode (step line (call name args) stop) → is_carried_with sb m ps head name ≡ true →
-            Turned f g sc (plan_in m ps u) (step line (call name args) stop) (record { name = name; given = names_of args; read = read; mark = n })
-        there line name args read n c w k carried v h =
-            let given = actuals_given args k.0 w.0.1 in
-            let same : actuals_named (names_of args) ≡ args = ap actuals_named (ap names_of given.1 ∙ named_back given.0) ∙ sym given.1 in
-            or_left (is_handed_back v (g name) args) false (back.carried name carried v args (subst (λ l. is_handed_back v (f name) l ≡ true) same h))
+        there : (line : ℕ) (name : List ℕ) (args : Terms) (read : Vars) (n : Mark) → Each (CallHasNone ps u) (statements (step line (call name args) stop)) → IsWrittenCode (step line (call name args) stop) → IsKernelCode (step line (call name args) stop) → AreCarriedWith sb m ps head name → HaveAdjoint m ps head name →
+            Turned f g sc (plan_with m ps u kept saved) (step line (call name args) stop) (record { name = name; given = names_of args; read = read; mark = n })
+        there line name args read n c w k carried adjoint =
+            let its = known_call ps u line name args c.0 w.0 k.0 in record {
+              plainly = λ v h. or_left (is_handed_back v (g name) args) false (back.carried name carried v args (subst (λ l. is_handed_back v (f name) l ≡ true) (names_again ps u name args its) h));
+              adjointed = λ v apart h. or_left (is_handed_back v (g name) args) false (adjoint_known name args its adjoint v apart h);
+            }
 
-    loop_known : (i : ℕ) (body : Code) (mark : Mark) → Each (CallHasNone ps u) (statements body) → IsWrittenCode body → IsKernelCode body → (o : Option Step) → reversed_by sc m.adjointed i body mark ≡ o → ((n : List ℕ) → found_or o (turns_in sc m.adjointed n (suc i) body) (λ t. name_eq n t.name) ≡ true → is_carried_with sb m ps head n ≡ true) →
-        ByStep o (Unit {0}) (Turned f g sc (plan_in m ps u) body) × ((n : List ℕ) → turns_in sc m.adjointed n (suc i) body ≡ true → is_carried_with sb m ps head n ≡ true)
-    loop_known i body mark inside w k None e turned = (tt, turned)
-    loop_known i body mark inside w k (Some s) e turned = (step_turned i body mark s e inside w k (turned s.name (name_refl s.name)), λ n h. absurd (let c : true ≡ false = sym h ∙ turned_alone sc m.adjointed i body mark s n (suc i) e in cc))
+    loop_known : (i : ℕ) (body : Code) (mark : Mark) → Each (CallHasNone ps u) (statements body) → IsWrittenCode body → IsKernelCode body → (o : Option Step) → reversed_by sc m.adjointed i body mark ≡ o → ByStep o (Unit {0}) (λ s. AreCarriedWith sb m ps head s.name × HaveAdjoint m ps head s.name) →
+        ByStep o (Unit {0}) (Turned f g sc (plan_with m ps u kept saved) body)
+    loop_known i body mark inside w k None e may = tt
+    loop_known i body mark inside w k (Some s) e may = step_turned i body mark s e inside w k may.0 may.1
 
     mutual
-      act_known : SplitsNothing m → (i line : ℕ) (a : Act) → CallHasNone ps u (line, a) → Each (CallHasNone ps u) (inner a) → IsWrittenAct a → IsKernelAct a → ((n : List ℕ) → calls_act m.kept n i a ≡ true → is_carried_with sb m ps head n ≡ true) → ((n : List ℕ) → calls_act m.adjointed n i a ≡ true → has_adjoint m ps head n ≡ true) → ((n : List ℕ) → turns_act sc m.adjointed n i a ≡ true → is_carried_with sb m ps head n ≡ true) → KnownAct f g sc (plan_in m ps u) i a
-      act_known unsplit i line (assign x subs e) c inside w k kept adjointed turned = place_plain x subs w.0
-      act_known unsplit i line (choose t a b) c inside w k kept adjointed turned = (
-        code_known unsplit (suc i) a (each_front (CallHasNone ps u) (statements a) (statements b) inside) w.1 k.0 (λ n h. kept n (or_left (calls_in m.kept n (suc i) a) (calls_in m.kept n (behind (suc i) a) b) h)) (λ n h. adjointed n (or_left (calls_in m.adjointed n (suc i) a) (calls_in m.adjointed n (behind (suc i) a) b) h)) (λ n h. turned n (or_left (turns_in sc m.adjointed n (suc i) a) (turns_in sc m.adjointed n (behind (suc i) a) b) h)),
-        code_known unsplit (behind (suc i) a) b (each_behind (CallHasNone ps u) (statements a) (statements b) inside) w.2 k.1 (λ n h. kept n (or_right (calls_in m.kept n (suc i) a) (calls_in m.kept n (behind (suc i) a) b) h)) (λ n h. adjointed n (or_right (calls_in m.adjointed n (suc i) a) (calls_in m.adjointed n (behind (suc i) a) b) h)) (λ n h. turned n (or_right (turns_in sc m.adjointed n (suc i) a) (turns_in sc m.adjointed n (behind (suc i) a) b) h)),
+      act_known : (i line : ℕ) (a : Act) → CallHasNone ps u (line, a) → Each (CallHasNone ps u) (inner a) → IsWrittenAct a → IsKernelAct a → MayCall' (AreCarriedWith sb m ps head) (HaveAdjoint m ps head) (HavePair m ps head) sc kept m.adjointed m.split i a → KnownAct f g sc (plan_with m ps u kept saved) i a
+      act_known i line (assign x subs e) c inside w k may = place_plain x subs w.0
+      act_known i line (choose t a b) c inside w k may = (
+        code_known (suc i) a (each_front (CallHasNone ps u) (statements a) (statements b) inside) w.1 k.0 may.0,
+        code_known (behind (suc i) a) b (each_behind (CallHasNone ps u) (statements a) (statements b) inside) w.2 k.1 may.1,
       )
-      act_known unsplit i line (loop x a b c body mark) d inside w k kept adjointed turned =
-          let rows = loop_known i body mark inside w.4 k.1 (reversed_by sc m.adjointed i body mark) refl turned in (variable_plain x w.0, (rows.0, code_known unsplit (suc i) body inside w.4 k.1 kept adjointed rows.1))
-      act_known unsplit i line (during t body) c inside w k kept adjointed turned = code_known unsplit (suc i) body inside w.1 k kept adjointed turned
-      act_known unsplit i line (call name args) c inside w k kept adjointed turned =
-          let unit = call_of_unit ps u line name args c in
-          let given = actuals_given args k w.1 in
-          subst (CallWrites f g sc (plan_in m ps u) i name) (sym given.1) (named_known unsplit i name unit.unit given.0 unit.found (λ t. kept name (rw (t, name_refl name) refl)) (λ t. adjointed name (rw (t, name_refl name) refl)))
-      act_known unsplit i line (runtime r) c inside w k kept adjointed turned = k
+      act_known i line (loop x a b c body mark) d inside w k may = (variable_plain x w.0, (loop_known i body mark inside w.4 k.1 (reversed_by sc m.adjointed i body mark) refl may.0, code_known (suc i) body inside w.4 k.1 may.1))
+      act_known i line (during t body) c inside w k may = code_known (suc i) body inside w.1 k may
+      act_known i line (call name args) c inside w k may = call_known i name args (known_call ps u line name args c w k) may
+      act_known i line (runtime r) c inside w k may = k
 
-      code_known : SplitsNothing m → (i : ℕ) (c : Code) → Each (CallHasNone ps u) (statements c) → IsWrittenCode c → IsKernelCode c → ((n : List ℕ) → calls_in m.kept n i c ≡ true → is_carried_with sb m ps head n ≡ true) → ((n : List ℕ) → calls_in m.adjointed n i c ≡ true → has_adjoint m ps head n ≡ true) → ((n : List ℕ) → turns_in sc m.adjointed n i c ≡ true → is_carried_with sb m ps head n ≡ true) → Known f g sc (plan_in m ps u) i c
-      code_known unsplit i stop c w k kept adjointed turned = tt
-      code_known unsplit i (step line a rest) c w k kept adjointed turned = (
-        act_known unsplit i line a c.0 (each_front (CallHasNone ps u) (inner a) (statements rest) c.1) w.0 k.0 (λ n h. kept n (or_left (calls_act m.kept n i a) (calls_in m.kept n (next i a) rest) h)) (λ n h. adjointed n (or_left (calls_act m.adjointed n i a) (calls_in m.adjointed n (next i a) rest) h)) (λ n h. turned n (or_left (turns_act sc m.adjointed n i a) (turns_in sc m.adjointed n (next i a) rest) h)),
-        code_known unsplit (next i a) rest (each_behind (CallHasNone ps u) (inner a) (statements rest) c.1) w.1 k.1 (λ n h. kept n (or_right (calls_act m.kept n i a) (calls_in m.kept n (next i a) rest) h)) (λ n h. adjointed n (or_right (calls_act m.adjointed n i a) (calls_in m.adjointed n (next i a) rest) h)) (λ n h. turned n (or_right (turns_act sc m.adjointed n i a) (turns_in sc m.adjointed n (next i a) rest) h)),
+      pub code_known : (i : ℕ) (c : Code) → Each (CallHasNone ps u) (statements c) → IsWrittenCode c → IsKernelCode c → MayCall (AreCarriedWith sb m ps head) (HaveAdjoint m ps head) (HavePair m ps head) sc kept m.adjointed m.split i c → Known f g sc (plan_with m ps u kept saved) i c
+      code_known i stop c w k may = tt
+      code_known i (step line a rest) c w k may = (
+        act_known i line a c.0 (each_front (CallHasNone ps u) (inner a) (statements rest) c.1) w.0 k.0 may.0,
+        code_known (next i a) rest (each_behind (CallHasNone ps u) (inner a) (statements rest) c.1) w.1 k.1 may.1,
       )
-
-    pub unit_known : IsSound m ps u → find_unit ps u.name ≡ Some u → has_adjoint m ps head u.name ≡ true → Known f g sc (plan_in m ps u) (first_statement ps u.name) u.body
-    unit_known s found there =
-        code_known s.2 (first_statement ps u.name) u.body s.0.0.calls written.body s.0.0.kernel (kept_carried sb m ps head u found there s.2)
-        (adjointed_there sb m ps head u found there s.2) (turned_carried sb m ps head u found there s.2)
-      where
-        written : IsWrittenProcedure u
-        written = s.0.0.written
 
   -- ---- what emitted units may write
 
@@ -212,35 +249,36 @@ module _ (sb : Bool) (m : ProgramMarks) (ps : List Procedure) (head : Procedure)
     pub carried_writes : (u : Procedure) → find_unit ps u.name ≡ Some u → is_carried_with sb m ps head u.name ≡ true → (v : Var) → writes f v u.body ≡ true → writes g v u.body ≡ true
     carried_writes u found h v e = inside_writes f g (is_carried_with sb m ps head) v (λ name k args. back.carried name k v args) u.body (common.closed u.name u h found) e
 
-    pub unit_writes : (u : Procedure) (s : IsSound m ps u) (at_turn at_end : List (List ℕ)) → Cleared sb m ps head vars outvars named known sound u at_turn → Cleared sb m ps head vars outvars named known sound u at_end → find_unit ps u.name ≡ Some u → has_adjoint m ps head u.name ≡ true → (d : List ℕ) → has_name d (variables u) ≡ true →
-        writes f (plain d) (adjoint_unit_with sb m ps (all_units m ps head) u at_turn at_end).body ≡ true → writes g (plain d) u.body ≡ true
-    unit_writes u s at_turn at_end turned ended found there d k e =
-        body_writes f g sc (plan_in m ps u) d (first_statement ps u.name) u.line u.body at_turn at_end (unit_known f back u s found there)
-        (sym (renamed_writes f (naming ns) (name_apart sb m ps head vars outvars named known sound u s at_turn at_end turned ended) (plain d) body)
-        ∙ subst (λ z. writes f (plain z) (rename (naming ns) body) ≡ true) (sym (keeps sb m ps head vars outvars named known sound u s at_turn at_end turned ended d k)) e)
-      where
-        ns : List Named
-        ns = names_for sb m ps head vars outvars named known sound u
+    module _ (u : Procedure) (s : IsSound sb m ps u) (found : find_unit ps u.name ≡ Some u) where
+      pub unit_known : (k : Making) → is_made m ps head u k ≡ true → Known f g sc (its_plan m ps u k) (first_statement ps u.name) u.body
+      unit_known k there = code_known f back u (its_kept m k) (its_saved m k) (first_statement ps u.name) u.body source.calls written.body source.kernel (its_calls sb m ps head u found source.calls s.splits k there)
+        where
+          source : UnitSound ps u
+          source = s.sound
 
-        body : Code
-        body = adjoint_body_with (schedules_in sb ps) (plan_in m ps u) (first_statement ps u.name) u.line u.body at_turn at_end
+          written : IsWrittenProcedure u
+          written = source.written
 
-    -- of the variables of its unit an adjoint
-    pub made_writes : (u : Procedure) → IsSound m ps u → find_unit ps u.name ≡ Some u → has_adjoint m ps head u.name ≡ true → (d : List ℕ) → has_name d (variables u) ≡ true → writes f (plain d) (emitted_adjoint_with sb m ps head vars outvars u).body ≡ true → writes g (plain d) u.body ≡ true
-    made_writes u s =
-        emitted_has sb m ps head vars outvars named known sound (λ u v. find_unit ps u.name ≡ Some u → has_adjoint m ps head u.name ≡ true → (d : List ℕ) → has_name d (variables u) ≡ true → writes f (plain d) v.body ≡ true → writes g (plain d) u.body ≡ true) unit_writes u s
+      -- the code that is made, of the dummies of the unit
+      code_writes : (k : Making) → is_made m ps head u k ≡ true → (d : List ℕ) → has_name d u.dummies ≡ true → writes f (plain d) (its_code sb m ps u k) ≡ true → writes g (plain d) u.body ≡ true
+      code_writes (as_adjoint at_turn at_end) there d h e = body_writes f g sc (its_plan m ps u (as_adjoint at_turn at_end)) d (first_statement ps u.name) u.line u.body at_turn at_end (unit_known (as_adjoint at_turn at_end) there) e
+      code_writes as_forth there d h e = forth_writes f g sc (its_plan m ps u as_forth) d (first_statement ps u.name) u.line (left_by ps u) u.body (unit_known as_forth there) e
+      code_writes as_back there d h e =
+          back_writes f g sc (its_plan m ps u as_back) d (first_statement ps u.name) u.line (left_by ps u) u.body (of_left (writes g (plain d) u.body ≡ true) d (dummy_set (is_written ps u)) u.dummies (variables u) h (λ w. w)) (unit_known as_back there) e
+
+      pub made_writes : (k : Making) → is_made m ps head u k ≡ true → (d : List ℕ) → has_name d u.dummies ≡ true → writes f (plain d) (made sb m ps units u k).body ≡ true → writes g (plain d) u.body ≡ true
+      made_writes k there d h e =
+          code_writes k there d h
+          (sym (renamed_writes f (naming ns) (name_apart sb m ps head vars outvars named known sound u s k) (plain d) (its_code sb m ps u k))
+          ∙ subst (λ z. writes f (plain z) (rename (naming ns) (its_code sb m ps u k)) ≡ true) (sym (keeps sb m ps head vars outvars named known sound u s k d (dummy_among u d h))) e)
+        where
+          ns : List Named
+          ns = names_for sb m ps head vars outvars named known sound u s k
 
   -- ---- round by round
 
-  made_dummies : (u : Procedure) → (made u).dummies ≡ shadows_behind (m.shadowed u.name) (adjoint_names_with sb m ps (all_units m ps head) u) u.dummies
-  made_dummies u = go (name_eq head.name u.name)
-    where
-      go : (b : Bool) → (if b then adjoint_unit_with sb m ps (all_units m ps head) u (names_in (m.shadowed u.name) (unmarked u.dummies outvars)) (names_in (m.shadowed u.name) (unmarked u.dummies vars)) else adjoint_unit_with sb m ps (all_units m ps head) u [] []).dummies ≡ shadows_behind (m.shadowed u.name) (adjoint_names_with sb m ps (all_units m ps head) u) u.dummies
-      go true = refl
-      go false = refl
-
   module _ (t : Procedure → List ℕ → Bool) (of_carried : (u : Procedure) → find_unit ps u.name ≡ Some u → is_carried_with sb m ps head u.name ≡ true → (d : List ℕ) → t u d ≡ true → is_written ps u d ≡ true)
-      (of_adjoint : (u : Procedure) → find_unit ps u.name ≡ Some u → has_adjoint m ps head u.name ≡ true → (d : List ℕ) → has_name d u.dummies ≡ true → t (made u) d ≡ true → is_written ps u d ≡ true) where
+      (of_its : (u : Procedure) → find_unit ps u.name ≡ Some u → (k : Making) → is_made m ps head u k ≡ true → (d : List ℕ) → has_name d u.dummies ≡ true → t (made sb m ps units u k) d ≡ true → is_written ps u d ≡ true) where
     abbrev row : Procedure → List Bool
     row u = map (t u) u.dummies
 
@@ -256,28 +294,38 @@ module _ (sb : Bool) (m : ProgramMarks) (ps : List Procedure) (head : Procedure)
             let same : u.name ≡ name = (found_there ps name u q).1 in
             subst (λ ws. is_handed_back v ws args ≡ true) (sym (handed_written ps name u q)) (flags_more v (t u) (is_written ps u) u.dummies (of_carried u (ap (find_unit ps) same ∙ q) (ap (is_carried_with sb m ps head) same ∙ h)) args e)
 
-    adjoint_no_more : (name : List ℕ) (w : Procedure) → find_unit ps name ≡ Some w → has_adjoint m ps head name ≡ true → (v : Var) → IsApart v → (given : List (List ℕ)) → is_handed_back v (rows (adjoint_name ps w)) (with_shadows (m.shadowed name) w.dummies given) ≡ true → is_handed_back v (handed_back ps name) (actuals_named given) ≡ true
-    adjoint_no_more name w found h v apart given e =
-        subst (λ ws. is_handed_back v ws (actuals_named given) ≡ true) (sym (handed_written ps name w found))
-        (with_more v apart (m.shadowed w.name) (adjoint_names_with sb m ps (all_units m ps head) w) (t (made w)) (is_written ps w) w.dummies given (of_adjoint w (ap (find_unit ps) same ∙ found) (ap (has_adjoint m ps head) same ∙ h))
-        (subst (λ sh. is_handed_back v (map (t (made w)) (shadows_behind (m.shadowed w.name) (adjoint_names_with sb m ps (all_units m ps head) w) w.dummies)) (with_shadows sh w.dummies given) ≡ true) (ap m.shadowed (sym same))
-        (subst (λ ws. is_handed_back v ws (with_shadows (m.shadowed name) w.dummies given) ≡ true) (row_map row qs (adjoint_name ps w) ∙ ap (of_found row) (adjoint_found sb m ps head vars outvars name w found h) ∙ ap (map (t (made w))) (made_dummies w)) e)))
-      where
-        same : w.name ≡ name
-        same = (found_there ps name w found).1
+    -- what is made of a unit, found under a name
+    found_no_more : (w : Procedure) → find_unit ps w.name ≡ Some w → (k : Making) → is_made m ps head w k ≡ true → (other : List ℕ) → find_unit qs other ≡ Some (made sb m ps units w k) → (v : Var) → IsApart v → (given : List (List ℕ)) → is_handed_back v (rows other) (with_shadows (its_shadows m w k) w.dummies given) ≡ true →
+        is_handed_back v (handed_back ps w.name) (actuals_named given) ≡ true
+    found_no_more w found k there other is v apart given e =
+        subst (λ ws. is_handed_back v ws (actuals_named given) ≡ true) (sym (handed_written ps w.name w found))
+        (with_more v apart (its_shadows m w k) (table_for adjoint_text (variables w) units (its_shadows m w k) (its_helpers sb m ps w k)) (t (made sb m ps units w k)) (is_written ps w) w.dummies given (of_its w found k there)
+        (subst (λ ws. is_handed_back v ws (with_shadows (its_shadows m w k) w.dummies given) ≡ true) (row_map row qs other ∙ ap (of_found row) is) e))
+
+    its_no_more : (w : Procedure) → find_unit ps w.name ≡ Some w → (k : Making) → is_made m ps head w k ≡ true → (v : Var) → IsApart v → (given : List (List ℕ)) → is_handed_back v (rows (its_name ps w k)) (with_shadows (its_shadows m w k) w.dummies given) ≡ true → is_handed_back v (handed_back ps w.name) (actuals_named given) ≡ true
+    its_no_more w found (as_adjoint at_turn at_end) there v apart given e =
+        found_no_more w found (emitted_making m head vars outvars w) (emitted_there m ps head vars outvars w ∙ there) (adjoint_name ps w) (adjoint_found sb m ps head vars outvars w.name w found there ∙ ap Some (emitted_is_made sb m ps head vars outvars w)) v apart given
+        (subst (λ sh. is_handed_back v (rows (adjoint_name ps w)) (with_shadows sh w.dummies given) ≡ true) (sym (emitted_shadows m head vars outvars w)) e)
+    its_no_more w found as_forth there v apart given e = found_no_more w found as_forth there (forth_name ps w) (forth_found sb m ps head vars outvars w.name w found there) v apart given e
+    its_no_more w found as_back there v apart given e = found_no_more w found as_back there (back_name ps w) (back_found sb m ps head vars outvars w.name w found there) v apart given e
 
     no_more : HandBackNoMore rows
-    no_more = record { carried = carried_no_more; adjoint = adjoint_no_more }
+    no_more = record {
+      carried = carried_no_more;
+      of_made = λ name w found k there v apart given e.
+          let same = (found_there ps name w found).1 in
+          subst (λ z. is_handed_back v (handed_back ps z) (actuals_named given) ≡ true) same (its_no_more w (ap (find_unit ps) same ∙ found) k there v apart given e);
+    }
 
-  sound_of : (u : Procedure) → find_unit ps u.name ≡ Some u → IsSound m ps u
-  sound_of u found = each_found (IsSound m ps) ps sound u.name u found
+  sound_of : (u : Procedure) → find_unit ps u.name ≡ Some u → IsSound sb m ps u
+  sound_of u found = each_found (IsSound sb m ps) ps sound u.name u found
 
   round_no_more : (k : ℕ) → HandBackNoMore (row_of qs (rounds write_rule qs k))
-  round_no_more zero = no_more (λ u d. false) (λ u f h d e. absurd cc) (λ u f h d k e. absurd cc)
+  round_no_more zero = no_more (λ u d. false) (λ u f h d e. absurd cc) (λ u f j h d k e. absurd cc)
   round_no_more (suc k) =
       let back = round_no_more k in
       let f = row_of qs (rounds write_rule qs k) in
-      no_more (write_rule f) (λ u found h d e. carried_writes f back u found h (plain d) e) (λ u found h d inside e. made_writes f back u (sound_of u found) found h d (dummy_among u d inside) e)
+      no_more (write_rule f) (λ u found h d e. carried_writes f back u found h (plain d) e) (λ u found j h d inside e. made_writes f back u (sound_of u found) found j h d inside e)
 
   -- so emitted units hand back no more
   pub handed_no_more : HandBackNoMore (handed_back qs)

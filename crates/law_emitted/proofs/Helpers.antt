@@ -1,6 +1,6 @@
 -- The helpers of loops and branches that the sweeps of a list use are among those that its unit declares.
 use Rattle.std.proofs.Common.{◌≡◌, ℕ, suc, ◌≤◌, max, Bool, true, false, sym, ap, subst, arith, if◌then◌else◌}
-use Rattle.std.specs.Prelude.{◌&&◌, ◌||◌, ◌==◌, not, Option, Some, None}
+use Rattle.std.specs.Prelude.{◌&&◌, ◌||◌, ◌==◌, not, Some, None}
 use Rattle.adj_tree.specs.Code.{Var, helper, control, first, stride, count, turn, entry, entries, kind, lower, upper, slots, Term, Test, Mark, Act, choose, loop, during, Code, step}
 use Rattle.adj_tree.proofs.Names.{nat_refl}
 use Rattle.def_names.specs.Numbers.{next, behind}
@@ -10,15 +10,24 @@ use Rattle.def_sweep.specs.Rows.{is_empty}
 use Rattle.def_sweep.specs.Emission.{backward_with}
 use Rattle.def_sweep.specs.Program.{depth_act_with, depth_used_with, tells_act_with, tells_some_with, goes_back_act_with, goes_back_with, reverses_act_by, reverses_by, any_step, has_slots, is_do, is_loop}
 
-module _ (Q : Var → Option ℕ → Type 0) (sc : Schedules) (p : Plan) where
+-- the helpers that a forward sweep uses: nothing is asked of others
+abbrev pub InForth : (Var → Type 0) → Var → Type 0
+InForth H (helper first k) = H (helper first k)
+InForth H (helper stride k) = H (helper stride k)
+InForth H (helper count k) = H (helper count k)
+InForth H (helper slots k) = H (helper slots k)
+InForth H v = Unit {0}
+
+-- where H says what is asked of a helper
+module _ (H : Var → Type 0) (sc : Schedules) (p : Plan) where
   abbrev Scalar : Var → Type 0
-  Scalar x = Q x (Some 0)
+  Scalar x = H x
 
   -- the helpers of a reversal by a schedule
   abbrev pub Acting : ℕ → Type 0
   Acting k = (Scalar (helper entry k) × Scalar (helper entries k)) × (Scalar (helper kind k) × (Scalar (helper lower k) × Scalar (helper upper k)))
 
-  -- the control word of a statement, and the helpers of its loops up to its depth, stand as scalars
+  -- what is asked holds of the control word of a statement, and of the helpers of its loops up to its depth
   pub record HelpedAct (i d : ℕ) (a : Act) : Type 0 where
     pub controls : tells_act_with sc p i d a ≡ true → Scalar (helper control 0)
     pub counts : (k : ℕ) → goes_back_act_with sc is_loop k p i d a ≡ true → k ≤ depth_act_with sc p i d a → Scalar (helper count k) × Scalar (helper turn k)
@@ -148,3 +157,13 @@ module _ (Q : Var → Option ℕ → Type 0) (sc : Schedules) (p : Plan) where
   while_counts i d c body e h =
       h.counts (suc d) (here d (idle_body i d body) (goes_back_with sc is_loop (suc d) p (suc i) (suc d) body) e)
       (within (suc d) (max (suc d) (depth_used_with sc p (suc i) (suc d) body)) (depth_act_with sc p i d (during c body)) (body_depth i d body e) (omega arith))
+
+-- what holds of more helpers holds of fewer
+pub helped_more : (H I : Var → Type 0) → ((v : Var) → H v → I v) → (sc : Schedules) (p : Plan) (i d : ℕ) (c : Code) → Helped H sc p i d c → Helped I sc p i d c
+helped_more H I f sc p i d c h = record {
+  controls = λ e. f (helper control 0) (h.controls e);
+  counts = λ k e le. let both = h.counts k e le in (f (helper count k) both.0, f (helper turn k) both.1);
+  bounds = λ k e le. let both = h.bounds k e le in (f (helper first k) both.0, f (helper stride k) both.1);
+  actions = λ k e le. let all = h.actions k e le in ((f (helper entry k) all.0.0, f (helper entries k) all.0.1), (f (helper kind k) all.1.0, (f (helper lower k) all.1.1.0, f (helper upper k) all.1.1.1)));
+  numbers = λ k e le. f (helper slots k) (h.numbers k e le);
+}

@@ -1,68 +1,86 @@
 -- What is emitted for a checked program is written.
-use Rattle.std.proofs.Common.{◌≡◌, ℕ, suc, Bool, true, false, List, [], ◌∷◌, ◌++◌, refl, if◌then◌else◌, sym, subst}
+use Rattle.std.proofs.Common.{◌≡◌, ℕ, suc, Bool, true, false, List, [], ◌∷◌, refl}
 use Rattle.std.specs.Prelude.{Option, Some, None}
 use Rattle.std.proofs.lemmas.List.Elements.{All-nil, All-cons}
-use Rattle.adj_tree.specs.Code.{plain, name_eq, Act, assign, choose, loop, during, call, runtime, Code, stop, step, Procedure}
+use Rattle.adj_tree.specs.Code.{Var, Act, assign, choose, loop, during, call, runtime, Code, stop, step, Procedure}
 use Rattle.def_text.specs.Written.{IsName, IsWrittenProcedure, IsWritten}
 use Rattle.def_meaning.specs.Written.{find_unit}
 use Rattle.def_names.specs.Variables.{variables}
-use Rattle.def_meaning.specs.Apart.{has_name}
-use Rattle.def_names.specs.Numbers.{everything, next, behind}
-use Rattle.def_sweep.specs.Marked.{names_in}
-use Rattle.def_sweep.specs.Declared.{unmarked, unit_at}
-use Rattle.def_sweep.specs.Names.{source_names}
+use Rattle.def_names.specs.Numbers.{Vars, everything, next, behind}
+use Rattle.def_sweep.specs.Declared.{unit_at}
+use Rattle.def_sweep.specs.Naming.{adjoint_text}
 use Rattle.def_sweep.specs.Plan.{names_of}
-use Rattle.def_sweep.specs.Marking.{ProgramMarks, full_marks, first_statement, callee_of, callee_in, plan_in, SplitsNothing}
-use Rattle.def_sweep.specs.Program.{has_adjoint, is_carried_with, all_units, adjoint_unit_with, emitted_adjoint_with, emitted_for_with, schedules_in}
-use Rattle.law_sweep.proofs.HeadNames.{unmarked_in}
-use Rattle.law_sweep.proofs.Variables.{dummy_among}
-use Rattle.law_sweep.proofs.Unsplit.{adjoint_units, unsplit_units}
-use Rattle.law_emitted.proofs.Lists.{Each}
+use Rattle.def_sweep.specs.Marking.{ProgramMarks, full_marks, first_statement, callee_of, callee_in, plan_in, arrays_of}
+use Rattle.def_sweep.specs.Program.{is_carried_with, all_units, emitted_units_with, emitted_for_with, schedules_in}
+use Rattle.law_emitted.proofs.Lists.{Each, each_more}
 use Rattle.law_emitted.specs.Shadowed.{AreCarried, HasShadows', HasShadows, AllHaveShadows}
+use Rattle.law_emitted.specs.Splits.{MaySplit, AllMaySplit}
 use Rattle.law_emitted.specs.Emitted.{MarkedIsWritten, EmittedIsWritten}
-use Rattle.law_emitted.proofs.MadeNames.{adjoint_named, follows_by}
-use Rattle.law_emitted.proofs.Sources.{each_name, UnitSound, all_named, all_sound}
-use Rattle.law_emitted.proofs.Units.{each_marked, unit_written}
+use Rattle.law_emitted.proofs.Over.{Any}
+use Rattle.law_emitted.proofs.Tables.{has_plain_for, plain_known_for, has_shadow_for, has_helper_for}
+use Rattle.law_emitted.proofs.Sources.{UnitSound, all_named, all_sound}
+use Rattle.law_emitted.proofs.Units.{HasName, AnyArray, source_formed, made_written}
+use Rattle.law_emitted.proofs.MadeFaults.{MayStand}
+use Rattle.law_emitted.proofs.Makings.{Making, its_name, its_shadows, its_helpers, its_code, made, ClearsOwn}
+use Rattle.law_emitted.proofs.MakingNames.{its_named}
+use Rattle.law_emitted.proofs.MakingCode.{its_are_helpers, its_code_over}
+use Rattle.law_emitted.proofs.Calling.{unsplit_may}
+use Rattle.law_emitted.proofs.Following.{follows_any}
+use Rattle.law_emitted.proofs.UnitFaults.{OfMade, each_emitted}
 
 -- ---- the emitted units
 
-module _ (m : ProgramMarks) (ps : List Procedure) (head : Procedure) (vars outvars : List Bool) (named : Each (λ u. IsName u.name) ps) where
-  -- what is cleared: marked dummies
-  pub cleared : (u : Procedure) (marks : List Bool) → Each (λ x. (has_name x (variables u) ≡ true) × (m.shadowed u.name (plain x) ≡ true)) (names_in (m.shadowed u.name) (unmarked u.dummies marks))
-  cleared u marks =
-      each_marked (λ x. has_name x (variables u) ≡ true) (m.shadowed u.name) (unmarked u.dummies marks)
-      (each_name (λ x. has_name x (variables u) ≡ true) (unmarked u.dummies marks) (λ x h. dummy_among u x (unmarked_in x u.dummies marks h)))
+module _ (sb : Bool) (m : ProgramMarks) (ps : List Procedure) (units : List (List ℕ)) (named : Each (λ u. IsName u.name) ps) (u : Procedure) (s : UnitSound ps u) (h : HasShadows (plan_in m ps u) (first_statement ps u.name) u.body) (may : MaySplit (schedules_in sb ps) m.adjointed m.split (first_statement ps u.name) u.body) (k : Making) where
+  abbrev a : Vars
+  a = its_shadows m u k
 
-module _ (sb : Bool) (m : ProgramMarks) (unsplit : SplitsNothing m) (ps : List Procedure) (head : Procedure) (vars outvars : List Bool) (named : Each (λ u. IsName u.name) ps) where
-  adjoint_written : (u : Procedure) → UnitSound ps u → HasShadows (plan_in m ps u) (first_statement ps u.name) u.body → IsWrittenProcedure (emitted_adjoint_with sb m ps head vars outvars u)
-  adjoint_written u s h = go (name_eq head.name u.name)
-    where
-      written : (at_turn at_end : List (List ℕ)) → Each (λ x. (has_name x (variables u) ≡ true) × (m.shadowed u.name (plain x) ≡ true)) at_turn → Each (λ x. (has_name x (variables u) ≡ true) × (m.shadowed u.name (plain x) ≡ true)) at_end → IsWrittenProcedure (adjoint_unit_with sb m ps (all_units m ps head) u at_turn at_end)
-      written at_turn at_end turned ended = unit_written sb m ps (all_units m ps head) u s.written s.kernel s.free s.calls (follows_by m ps named u unsplit (schedules_in sb ps) (first_statement ps u.name) u.body s.calls h) at_turn at_end (adjoint_named (source_names ps) ps u.name named s.there).0 turned ended
+  abbrev hs : List Var
+  hs = its_helpers sb m ps u k
 
-      go : (b : Bool) → IsWrittenProcedure (if b then adjoint_unit_with sb m ps (all_units m ps head) u (names_in (m.shadowed u.name) (unmarked u.dummies outvars)) (names_in (m.shadowed u.name) (unmarked u.dummies vars)) else adjoint_unit_with sb m ps (all_units m ps head) u [] [])
-      go true = written _ _ (cleared m ps head vars outvars named u outvars) (cleared m ps head vars outvars named u vars)
-      go false = written [] [] tt tt
+  abbrev Q : Var → Option ℕ → Type 0
+  Q = HasName adjoint_text units u a hs s.written s.free (its_are_helpers sb m ps u k)
 
-  units_written : (us : List Procedure) → Each (UnitSound ps) us → AllHaveShadows m ps us → IsWritten (adjoint_units sb m ps head vars outvars us)
-  units_written [] s h = All-nil IsWrittenProcedure
-  units_written (u ∷ us) s h = carried (is_carried_with sb m ps head u.name) (made (has_adjoint m ps head u.name) (units_written us s.1 h.1))
-    where
-      made : (b : Bool) → IsWritten (adjoint_units sb m ps head vars outvars us) → IsWritten ((if b then emitted_adjoint_with sb m ps head vars outvars u ∷ [] else []) ++ adjoint_units sb m ps head vars outvars us)
-      made true ih = All-cons IsWrittenProcedure (emitted_adjoint_with sb m ps head vars outvars u) (adjoint_units sb m ps head vars outvars us) (adjoint_written u s.0 h.0) ih
-      made false ih = ih
+  abbrev A : Var → Type 0
+  A = AnyArray adjoint_text units u a hs s.written s.free (its_are_helpers sb m ps u k)
 
-      carried : (b : Bool) → IsWritten ((if has_adjoint m ps head u.name then emitted_adjoint_with sb m ps head vars outvars u ∷ [] else []) ++ adjoint_units sb m ps head vars outvars us) → IsWritten ((if b then u ∷ [] else []) ++ ((if has_adjoint m ps head u.name then emitted_adjoint_with sb m ps head vars outvars u ∷ [] else []) ++ adjoint_units sb m ps head vars outvars us))
-      carried true ih = let sound = s.0 in All-cons IsWrittenProcedure u _ sound.written ih
-      carried false ih = ih
+  -- every variable that has a name may stand
+  may_stand : MayStand Q A a (arrays_of u) (variables u) hs
+  may_stand = record {
+    shadows = λ x n marked q. has_shadow_for adjoint_text (variables u) units a hs s.free (its_are_helpers sb m ps u k) x (plain_known_for adjoint_text (variables u) units a hs s.free (its_are_helpers sb m ps u k) x q) marked;
+    arrays = λ x e. tt;
+    shadow_arrays = λ x marked e. tt;
+    scalars = λ x e q. q;
+    wholes = λ x h. has_plain_for adjoint_text (variables u) units a hs s.free (its_are_helpers sb m ps u k) x h;
+    helpers = λ v h. has_helper_for adjoint_text (variables u) units a hs s.free (its_are_helpers sb m ps u k) v h;
+  }
+
+  -- what is made of a unit is written
+  its_written : ClearsOwn m u k → IsWrittenProcedure (made sb m ps units u k)
+  its_written clears =
+      made_written adjoint_text units u a hs s.written s.free (its_are_helpers sb m ps u k) (its_name ps u k) (its_code sb m ps u k) (its_named ps u k named s.there).0
+      (its_code_over sb m ps u Q A Any (source_formed adjoint_text units u a hs s.written s.free (its_are_helpers sb m ps u k) ps s.kernel s.calls) k clears may_stand (follows_any sb m ps named u s h may k))
+
+each_is : (qs : List Procedure) → Each IsWrittenProcedure qs → IsWritten qs
+each_is [] h = All-nil IsWrittenProcedure
+each_is (q ∷ qs) h = All-cons IsWrittenProcedure q qs h.0 (each_is qs h.1)
+
+module _ (sb : Bool) (m : ProgramMarks) (ps : List Procedure) (head : Procedure) (vars outvars : List Bool) (named : Each (λ u. IsName u.name) ps) where
+  all_made : (us : List Procedure) → Each (UnitSound ps) us → AllHaveShadows m ps us → AllMaySplit sb m ps us → Each (OfMade sb m ps head vars outvars IsWrittenProcedure) us
+  all_made [] s h may = tt
+  all_made (u ∷ us) s h may = (λ k clears there. its_written sb m ps (all_units m ps head) named u s.0 h.0 may.0 k clears, all_made us s.1 h.1 may.1)
+
+  units_written : Each (UnitSound ps) ps → AllHaveShadows m ps ps → AllMaySplit sb m ps ps → IsWritten (emitted_units_with sb m ps head vars outvars ps)
+  units_written s h may =
+      each_is (emitted_units_with sb m ps head vars outvars ps)
+      (each_emitted sb m ps head vars outvars IsWrittenProcedure ps (each_more (UnitSound ps) (λ u. is_carried_with sb m ps head u.name ≡ true → IsWrittenProcedure u) (λ u sound c. sound.written) ps s) (all_made ps s h may))
 
 -- what is emitted by marks with shadows is written
 pub marked_written : MarkedIsWritten
-marked_written rules ps checked sb m unsplit shadowed head vars outvars = go (unit_at head ps)
+marked_written rules ps checked sb m shadowed may head vars outvars = go (unit_at head ps)
   where
     go : (us : List Procedure) → IsWritten (emitted_for_with sb m ps vars outvars us)
     go [] = All-nil IsWrittenProcedure
-    go (u ∷ us) = subst IsWritten (sym (unsplit_units sb m unsplit ps u vars outvars ps)) (units_written sb m unsplit ps u vars outvars (all_named rules ps checked) ps (all_sound rules ps checked) shadowed)
+    go (u ∷ us) = units_written sb m ps u vars outvars (all_named rules ps checked) (all_sound rules ps checked) shadowed may
 
 -- ---- full marks
 
@@ -99,4 +117,4 @@ full_shadows ps [] = tt
 full_shadows ps (u ∷ us) = (full_list ps u (first_statement ps u.name) u.body, full_shadows ps us)
 
 pub emitted_written : EmittedIsWritten
-emitted_written rules ps checked head vars outvars = marked_written rules ps checked false full_marks (λ i. refl) (full_shadows ps ps) head vars outvars
+emitted_written rules ps checked head vars outvars = marked_written rules ps checked false full_marks (full_shadows ps ps) (unsplit_may false full_marks (λ i. refl) ps ps) head vars outvars

@@ -1,5 +1,5 @@
 -- No loop in the sweeps of a unit may write its variable: not in its body.
-use Rattle.std.proofs.Common.{◌≡◌, ℕ, suc, ◌<◌, Bool, true, false, List, [], ◌∷◌, refl, sym, ◌∙◌, arith, if◌then◌else◌, subst}
+use Rattle.std.proofs.Common.{◌≡◌, ℕ, suc, ◌<◌, Bool, true, false, List, [], ◌∷◌, refl, sym, ◌∙◌, arith, if◌then◌else◌}
 use Rattle.std.specs.Prelude.{◌&&◌, ◌||◌, ◌==◌, not, Option, Some, None}
 use Rattle.adj_tree.specs.Code.{Var, var_eq, plain, shadow, helper, turn, Role, entry, kind, lower, is_same, compare, Term, var, none, Test, Mark, unmarked, with_count, count_from, push_array, pop_array, push_word, pop_word, push_control, zero_array, Act, assign, choose, loop, during, call, runtime, Code, stop, step}
 use Rattle.adj_tree.proofs.Names.{nat_same}
@@ -18,7 +18,7 @@ use Rattle.def_sweep.specs.Plan.{Callee, Plan, is_emitted, names_of, actuals_nam
 use Rattle.def_sweep.specs.ReversalCode.{at_turn, arm, advance, arms, one_action, reversal, slots_of, set_slots, push_slots, pop_slots, row_forward, row_backward}
 use Rattle.def_sweep.specs.Rows.{is_empty, push, pop, pushes, pops, literal, with_shadows, adjoint_call, told_forward, told_backward, loop_forward, loop_backward, while_forward, while_backward, resets, reset}
 use Rattle.def_sweep.specs.Emission.{forward_act_with, forward_with, backward_act_with, backward_with, cleared, adjoint_body_with}
-use Rattle.def_sweep.proofs.UnsplitRows.{unsplit_forward, unsplit_backward}
+use Rattle.def_sweep.specs.SplitRows.{forth_body, back_body}
 use Rattle.law_emitted.proofs.StepCalls.{from_keep, from_turn, from_advance}
 use Rattle.law_emitted.proofs.Assigned.{AreMaking, making_adjoint}
 use Rattle.law_emitted.proofs.Writing.{plain_apart, turn_apart, no_given, no_shadows_given, Turned, KnownAct, Known, no_turns, rows_forth, rows_back, neither, Only, raised, only_raised, list_only}
@@ -33,6 +33,10 @@ module _ (f g : Dummies) (sc : Schedules) (p : Plan) where
   spared_if : (b : Bool) (c : Code) → AreSpared f c → AreSpared f (code_if b c)
   spared_if true c h = h
   spared_if false c h = tt
+
+  spared_either : (b : Bool) (c d : Code) → AreSpared f c → AreSpared f d → AreSpared f (if b then c else d)
+  spared_either true c d h k = h
+  spared_either false c d h k = k
 
   spared_making : (c : Code) → AreMaking c → AreSpared f c
   spared_making stop h = tt
@@ -223,7 +227,7 @@ module _ (f g : Dummies) (sc : Schedules) (p : Plan) where
 
       -- the variable of the loop isn't handed back by its step call
       kept_call : (t : Bool) → Only f g sc p (plain x) (plain_apart x) false (code_if t (one line (call s.name (actuals_named s.given))))
-      kept_call true e = sym own ∙ turned (plain x) (handed (is_handed_back (plain x) (f s.name) (actuals_named s.given)) e)
+      kept_call true e = sym own ∙ turned.plainly (plain x) (handed (is_handed_back (plain x) (f s.name) (actuals_named s.given)) e)
         where
           handed : (q : Bool) → (q || false) ≡ true → q ≡ true
           handed true h = refl
@@ -293,10 +297,12 @@ module _ (f g : Dummies) (sc : Schedules) (p : Plan) where
     act_spared i d line (call name args) w s h =
         let callee = p.callees name in
         let given = names_of args in (
-          subst (AreSpared f) (sym (unsplit_forward sc p i d line name args w.unsplit)) (spared_if (is_emitted p.marks i) _
+          spared_if (is_emitted p.marks i) _
+              (spared_either (p.marks.split i) (one line (call callee.forth args)) _ (tt, (tt, tt))
               (join (pushes p line (save_group p.marks i callee given)) _ (spared_pushes line (save_group p.marks i callee given))
               (join (code_if (p.marks.adjointed i) (pushes p line (snapshot_group callee given))) _ (spared_if (p.marks.adjointed i) _ (spared_pushes line (snapshot_group callee given))) (spared_if (p.marks.kept i) (one line (call name args)) (tt, (tt, tt)))))),
-          subst (AreSpared f) (sym (unsplit_backward sc p i d line name args w.unsplit)) (spared_if (is_emitted p.marks i) _
+          spared_if (is_emitted p.marks i) _
+              (spared_either (p.marks.split i) (one line (call callee.back (with_shadows callee.shadowed callee.dummies given))) _ (tt, (tt, tt))
               (join (code_if (p.marks.adjointed i) (pops p line (snapshot_group callee given) +++ one line (adjoint_call callee given))) _
               (spared_if (p.marks.adjointed i) _ (join (pops p line (snapshot_group callee given)) (one line (adjoint_call callee given)) (spared_pops line (snapshot_group callee given)) (tt, (tt, tt))))
               (spared_pops line (save_group p.marks i callee given)))),
@@ -325,3 +331,10 @@ module _ (f g : Dummies) (sc : Schedules) (p : Plan) where
   body_spared i line c at_turn at_end w h =
       let sweeps = list_spared i 0 c w h in
       join (forward_with sc p i 0 c) _ sweeps.0 (join (cleared p line at_turn) _ (spared_cleared line at_turn) (join (backward_with sc p i 0 c) (cleared p line at_end) sweeps.1 (spared_cleared line at_end)))
+
+  -- and in those of a forward and of a backward unit
+  pub forth_spared : (i line : ℕ) (left : List (List ℕ)) (c : Code) → Known f g sc p i c → AreSpared g c → AreSpared f (forth_body sc p i line left c)
+  forth_spared i line left c w h = join (forward_with sc p i 0 c) (pushes p line left) (list_spared i 0 c w h).0 (spared_pushes line left)
+
+  pub back_spared : (i line : ℕ) (left : List (List ℕ)) (c : Code) → Known f g sc p i c → AreSpared g c → AreSpared f (back_body sc p i line left c)
+  back_spared i line left c w h = join (pops p line left) (backward_with sc p i 0 c) (spared_pops line left) (list_spared i 0 c w h).1

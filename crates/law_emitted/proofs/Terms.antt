@@ -7,7 +7,8 @@ use Rattle.def_meaning.specs.Append.{◌+++◌, one}
 use Rattle.def_names.specs.Standing as standing
 use Rattle.def_names.specs.Numbers.{Vars}
 use Rattle.def_sweep.specs.Marked.{code_if, count_of, own_or, own_code, work_var, place}
-use Rattle.def_sweep.specs.AdjointOf.{is_active_where, has_own_where, temps_in_where, shrunk_where, temps_where, times_power, back_where, works_in_where, adjoint_where}
+use Rattle.def_sweep.specs.Occurrences.{is_active_where}
+use Rattle.def_sweep.specs.AdjointOf.{has_own_where, temps_in_where, shrunk_where, temps_where, times_power, back_where, works_in_where, adjoint_where}
 use Rattle.law_emitted.proofs.Over.{OverTerm, OverPlace, OverCode, over_append, over_if}
 
 -- one of two holds, and bounds the greater of two numbers

@@ -1,38 +1,31 @@
--- A unit that is made is written, and so is an adjoint unit.
+-- A unit that is made is written.
 use Rattle.std.proofs.Common.{◌≡◌, ℕ, Bool, true, false, List, [], ◌∷◌, All, refl, arith, if◌then◌else◌}
-use Rattle.std.specs.Prelude.{Option, Some, None}
+use Rattle.std.specs.Prelude.{Option}
 use Rattle.std.proofs.lemmas.List.Elements.{All-nil, All-cons, All-head, All-tail, All-append}
-use Rattle.adj_tree.specs.Code.{Var, plain, shadow, helper, work, temp, name_eq, var_eq, Code, Declaration, Procedure}
+use Rattle.adj_tree.specs.Code.{Var, plain, shadow, name_eq, var_eq, Code, Declaration, Procedure}
 use Rattle.def_text.specs.Written.{IsName, IsWrittenExtent, IsWrittenDeclaration, IsWrittenProcedure}
 use Rattle.def_names.specs.Statements.{statements}
 use Rattle.def_names.specs.Variables.{variables}
 use Rattle.def_kernel.specs.Form.{IsKernelCode}
 use Rattle.def_meaning.specs.Apart.{has_name}
-use Rattle.def_sweep.specs.Naming.{Derived, adjoint_text, Named, name_in, naming}
+use Rattle.def_sweep.specs.Naming.{Derived, Named, name_in, naming}
 use Rattle.def_names.specs.Numbers.{Vars}
 use Rattle.def_sweep.specs.Marked.{names_in}
 use Rattle.def_sweep.specs.MarkedProgram.{shadows_behind, declared_behind}
 use Rattle.def_sweep.specs.Declared.{scalar, declaration, declared_helpers}
 use Rattle.def_names.proofs.Variables.{or_left, or_right}
 use Rattle.def_meaning.proofs.Variables.{var_refl}
-use Rattle.def_sweep.specs.Plan.{Plan, Schedules}
-use Rattle.def_sweep.specs.Emission.{adjoint_body_with}
-use Rattle.def_sweep.specs.Names.{adjoint_name}
-use Rattle.def_sweep.specs.Marking.{ProgramMarks, first_statement, plan_in}
-use Rattle.def_sweep.specs.Program.{works_used, temps_used, helpers_used_with, adjoint_names_with, made_unit_for, adjoint_unit_with, schedules_in}
+use Rattle.def_sweep.specs.Program.{made_unit_for}
 use Rattle.law_sweep.proofs.Variables.{dummy_among}
-use Rattle.law_emitted.proofs.Lists.{Each, each_more}
+use Rattle.law_emitted.proofs.Lists.{Each}
 use Rattle.law_emitted.proofs.Texts.{Known}
 use Rattle.law_emitted.proofs.Statements.{CallHasNone}
 use Rattle.law_emitted.proofs.CheckedUnits.{names_known}
 use Rattle.law_emitted.proofs.Over.{OverCode, Any}
-use Rattle.law_emitted.proofs.Follows.{FollowsBy}
-use Rattle.law_emitted.proofs.Sweeps.{Allows, body_over}
 use Rattle.law_emitted.proofs.Renamed.{written_code}
 use Rattle.law_emitted.proofs.Source.{source_code}
-use Rattle.law_emitted.proofs.Used.{used_helpers_with, used_works, used_temps, all_helped}
 use Rattle.law_emitted.proofs.Sources.{each_name, of_each}
-use Rattle.law_emitted.proofs.Tables.{IsFree, AreHelpers, has_var, among, table_for, named_free_for, named_indexed_for, has_plain_for, has_shadow_for, has_helper_for, has_plain, plain_known, has_shadow, has_helper}
+use Rattle.law_emitted.proofs.Tables.{IsFree, AreHelpers, has_var, among, table_for, named_free_for, named_indexed_for, has_plain_for, has_shadow_for, has_helper_for}
 
 -- the marked ones of a list
 pub each_marked : (P : List ℕ → Type 0) (a : Vars) (xs : List (List ℕ)) → Each P xs → Each (λ x. P x × (a (plain x) ≡ true)) (names_in a xs)
@@ -76,10 +69,10 @@ module _ (o : Derived) (units : List (List ℕ)) (u : Procedure) (a : Vars) (hs 
   its_names = table_for o (variables u) units a hs
 
   -- a variable that has a name
-  abbrev HasName : Var → Option ℕ → Type 0
+  abbrev pub HasName : Var → Option ℕ → Type 0
   HasName v n = has_var v its_names ≡ true
 
-  abbrev AnyArray : Var → Type 0
+  abbrev pub AnyArray : Var → Type 0
   AnyArray v = Unit {0}
 
   -- the variables of its source have one
@@ -132,52 +125,3 @@ module _ (o : Derived) (units : List (List ℕ)) (u : Procedure) (a : Vars) (hs 
     declarations = All-append IsWrittenDeclaration (declared_behind a its_names u (variables u)) (declared_helpers its_names u.line hs) (declared_written (variables u) variables_known) (helpers_written u.line hs helper_names);
     body = written_code HasName AnyArray Any (naming its_names) (λ v n q. named_indexed_for o (variables u) units a hs free helpers v q) c over;
   }
-
--- ---- the adjoint of a unit
-
-module _ (sb : Bool) (m : ProgramMarks) (ps : List Procedure) (units : List (List ℕ)) (u : Procedure) (written : IsWrittenProcedure u) (kernel : IsKernelCode u.body) (free : Each IsFree (variables u)) (calls : Each (CallHasNone ps u) (statements u.body)) (follows : FollowsBy (schedules_in sb ps) Any (plan_in m ps u) (first_statement ps u.name) u.body) where
-  abbrev p : Plan
-  p = plan_in m ps u
-
-  abbrev sc : Schedules
-  sc = schedules_in sb ps
-
-  abbrev i : ℕ
-  i = first_statement ps u.name
-
-  abbrev a : Vars
-  a = m.shadowed u.name
-
-  abbrev hs : List Var
-  hs = helpers_used_with sc p i u.body
-
-  abbrev table : List Named
-  table = adjoint_names_with sb m ps units u
-
-  -- a variable that the table has
-  abbrev InTable : Var → Option ℕ → Type 0
-  InTable v n = has_var v table ≡ true
-
-  abbrev Whole : Var → Type 0
-  Whole v = Unit {0}
-
-  allows : Allows InTable Whole a p.arrays
-  allows = record {
-    shadows = λ x n marked q. has_shadow (variables u) units a hs free (used_helpers_with sc p i u.body) x (plain_known (variables u) units a hs free (used_helpers_with sc p i u.body) x q) marked;
-    whole = λ x e q. tt;
-    whole_shadows = λ x marked e q. tt;
-    scalars = λ x e q. q;
-  }
-
-  helper_stands : (v : Var) → among v hs ≡ true → InTable v (Some 0)
-  helper_stands v h = has_helper (variables u) units a hs free (used_helpers_with sc p i u.body) v h
-
-  body_written : (line : ℕ) (at_turn at_end : List (List ℕ)) → Each (λ x. (has_name x (variables u) ≡ true) × (a (plain x) ≡ true)) at_turn → Each (λ x. (has_name x (variables u) ≡ true) × (a (plain x) ≡ true)) at_end → OverCode InTable Whole Any (adjoint_body_with sc p i line u.body at_turn at_end)
-  body_written line at_turn at_end turned ended =
-      body_over InTable Whole Any sc p allows (works_used p.marks i u.body) (temps_used p.marks i u.body) (λ k low high. helper_stands (helper work k) (used_works sc p i u.body k low high)) (λ k low high. helper_stands (helper temp k) (used_temps sc p i u.body k low high)) i line u.body at_turn at_end follows (source_formed adjoint_text units u a hs written free (used_helpers_with sc p i u.body) ps kernel calls) (all_helped sc p i u.body InTable helper_stands) (omega arith) (omega arith) (stand at_turn turned) (stand at_end ended)
-    where
-      stand : (xs : List (List ℕ)) → Each (λ x. (has_name x (variables u) ≡ true) × (a (plain x) ≡ true)) xs → Each (λ x. InTable (plain x) None × (a (plain x) ≡ true)) xs
-      stand xs h = each_more (λ x. (has_name x (variables u) ≡ true) × (a (plain x) ≡ true)) (λ x. InTable (plain x) None × (a (plain x) ≡ true)) (λ x k. (has_plain (variables u) units a hs free (used_helpers_with sc p i u.body) x k.0, k.1)) xs h
-
-  pub unit_written : (at_turn at_end : List (List ℕ)) → IsName (adjoint_name ps u) → Each (λ x. (has_name x (variables u) ≡ true) × (a (plain x) ≡ true)) at_turn → Each (λ x. (has_name x (variables u) ≡ true) × (a (plain x) ≡ true)) at_end → IsWrittenProcedure (adjoint_unit_with sb m ps units u at_turn at_end)
-  unit_written at_turn at_end named turned ended = made_written adjoint_text units u a hs written free (used_helpers_with sc p i u.body) (adjoint_name ps u) (adjoint_body_with sc p i u.line u.body at_turn at_end) named (body_written u.line at_turn at_end turned ended)

@@ -1,4 +1,4 @@
--- The helpers that a unit's adjoint declares are those that its sweeps use.
+-- The helpers that a unit's adjoint declares are those that its sweeps use, and those that its forward unit declares are those that its forward sweep uses.
 use Rattle.std.proofs.Common.{◌≡◌, ℕ, suc, ◌<◌, ◌≤◌, Bool, true, false, List, [], ◌∷◌, ◌++◌, refl, sym, ◌∙◌, arith, if◌then◌else◌}
 use Rattle.std.specs.Prelude.{◌&&◌, ◌||◌, ◌==◌, not, Option, Some, None}
 use Rattle.adj_tree.specs.Code.{Var, helper, work, temp, control, first, stride, count, turn, entry, entries, kind, lower, upper, slots, Role, Act, assign, choose, loop, during, call, runtime, Code, stop, step}
@@ -10,9 +10,9 @@ use Rattle.def_meaning.proofs.Variables.{var_refl}
 use Rattle.def_sweep.specs.Plan.{Plan, Schedules, Step, found_or, reversed_by}
 use Rattle.def_sweep.specs.Rows.{is_empty}
 use Rattle.def_sweep.specs.Emission.{backward_with}
-use Rattle.def_sweep.specs.Program.{works_used, temps_used, depth_used_with, tells_some_with, goes_back_act_with, goes_back_with, reverses_act_by, reverses_by, any_step, has_slots, is_do, is_loop, loop_helpers_with, reversal_helpers, all_reversal_helpers, helpers_used_with, helpers_used}
+use Rattle.def_sweep.specs.Program.{works_used, temps_used, depth_used_with, tells_some_with, goes_back_act_with, goes_back_with, reverses_act_by, reverses_by, any_step, has_slots, is_do, is_loop, loop_helpers_with, reversal_helpers, all_reversal_helpers, helpers_used_with, helpers_used, forth_slots, helpers_forth}
 use Rattle.law_emitted.proofs.Tables.{among, among-append, AreHelpers, helpers_append, from_helpers, among_helpers, has_from, has_among}
-use Rattle.law_emitted.proofs.Helpers.{Helped}
+use Rattle.law_emitted.proofs.Helpers.{InForth, Helped}
 
 -- of two that one is true the one gives what is wanted
 pick : {X : Type 0} (a b : Bool) → (a || b) ≡ true → (a ≡ true → X) → (b ≡ true → X) → X
@@ -220,8 +220,8 @@ module _ (sc : Schedules) (p : Plan) (i : ℕ) (c : Code) where
       (in_rest v (reversal_helpers z any_step lower p i c) _
       (in_rest v (reversal_helpers z any_step upper p i c) (reversal_helpers z has_slots slots p i c) (of_reversal z has_slots slots k h le)))))
 
-  pub all_helped : (Q : Var → Option ℕ → Type 0) → ((v : Var) → among v (helpers_used_with sc p i c) ≡ true → Q v (Some 0)) → Helped Q sc p i 0 c
-  all_helped Q f = record {
+  pub all_helped : (H : Var → Type 0) → ((v : Var) → among v (helpers_used_with sc p i c) ≡ true → H v) → Helped H sc p i 0 c
+  all_helped H f = record {
     controls = λ e. f (helper control 0) (used_control e);
     counts = λ k e le. (f (helper count k) (behind_control (helper count k) (in_front (helper count k) counts_of _ (of_loop is_loop count k e le))), f (helper turn k) (behind_strides (helper turn k) (in_front (helper turn k) turns_of _ (of_loop is_loop turn k e le))));
     bounds = λ k e le. (f (helper first k) (behind_counts (helper first k) (in_front (helper first k) firsts_of _ (of_loop is_do first k e le))), f (helper stride k) (behind_firsts (helper stride k) (in_front (helper stride k) strides_of _ (of_loop is_do stride k e le))));
@@ -233,6 +233,35 @@ module _ (sc : Schedules) (p : Plan) (i : ℕ) (c : Code) where
       ),
     );
     numbers = λ k e le. f (helper slots k) (behind_turns (helper slots k) (in_front (helper slots k) actions_of own_of (used_numbers sc k e le)));
+  }
+
+  -- ---- the helpers of a forward unit
+
+  slots_helpers : (z : Schedules) → AreHelpers (forth_slots z p i c)
+  slots_helpers None = tt
+  slots_helpers (Some reads) = acting_helpers (Some reads) has_slots slots
+
+  pub forth_helpers : AreHelpers (helpers_forth sc p i c)
+  forth_helpers =
+      helpers_append counts_of _ (loops_helpers is_loop count)
+      (helpers_append firsts_of _ (loops_helpers is_do first)
+      (helpers_append strides_of (forth_slots sc p i c) (loops_helpers is_do stride) (slots_helpers sc)))
+
+  -- the variables for numbers of snapshots
+  forth_numbers : (z : Schedules) (k : ℕ) → reverses_by z has_slots k p i 0 c ≡ true → k ≤ depth_used_with z p i 0 c → among (helper slots k) (forth_slots z p i c) ≡ true
+  forth_numbers None k h le = absurd (let e : true ≡ false = sym h ∙ none_list has_slots k sc p i 0 c in cc)
+  forth_numbers (Some reads) k h le = of_reversal (Some reads) has_slots slots k h le
+
+  pub forth_helped : (H : Var → Type 0) → ((v : Var) → among v (helpers_forth sc p i c) ≡ true → H v) → Helped (λ v. InForth H v) sc p i 0 c
+  forth_helped H f = record {
+    controls = λ e. tt;
+    counts = λ k e le. (f (helper count k) (in_front (helper count k) counts_of _ (of_loop is_loop count k e le)), tt);
+    bounds = λ k e le. (
+      f (helper first k) (in_rest (helper first k) counts_of _ (in_front (helper first k) firsts_of _ (of_loop is_do first k e le))),
+      f (helper stride k) (in_rest (helper stride k) counts_of _ (in_rest (helper stride k) firsts_of _ (in_front (helper stride k) strides_of (forth_slots sc p i c) (of_loop is_do stride k e le)))),
+    );
+    actions = λ k e le. ((tt, tt), (tt, (tt, tt)));
+    numbers = λ k e le. f (helper slots k) (in_rest (helper slots k) counts_of _ (in_rest (helper slots k) firsts_of _ (in_rest (helper slots k) strides_of (forth_slots sc p i c) (forth_numbers sc k e le))));
   }
 
 -- where no loop is reversed by a schedule

@@ -17,22 +17,23 @@ use Rattle.def_names.specs.Numbers.{Vars}
 use Rattle.def_sweep.specs.MarkedProgram.{declared_behind}
 use Rattle.def_sweep.specs.Declared.{declaration, declared_helpers, unit_at}
 use Rattle.def_names.proofs.Variables.{not_true, or_left, or_right}
-use Rattle.def_sweep.specs.Emission.{adjoint_body_with}
-use Rattle.def_sweep.specs.Marking.{ProgramMarks, first_statement, plan_in, SplitsNothing}
-use Rattle.def_sweep.specs.Program.{helpers_used_with, has_adjoint, is_carried_with, all_units, adjoint_unit_with, emitted_adjoint_with, emitted_units_with, emitted_for_with, schedules_in}
+use Rattle.def_sweep.specs.Plan.{Schedules}
+use Rattle.def_sweep.specs.Marking.{ProgramMarks, first_statement}
+use Rattle.def_sweep.specs.Program.{is_carried_with, all_units, left_by, emitted_units_with, emitted_for_with, schedules_in}
 use Rattle.law_sweep.specs.Source.{CallUnits}
-use Rattle.law_sweep.proofs.Variables.{dummy_among}
-use Rattle.law_emitted.proofs.Lists.{Each, each_more, each_both, none_each}
+use Rattle.law_emitted.proofs.Lists.{Each, each_more, each_both, each_found, none_each}
 use Rattle.def_names.proofs.Faultless.{none_front, none_behind}
 use Rattle.law_emitted.proofs.Callings.{Found}
 use Rattle.law_emitted.specs.Emitted.{WritesHaveNone}
 use Rattle.law_emitted.proofs.Sources.{all_named}
-use Rattle.law_emitted.proofs.UnitFaults.{flat_none, each_emitted}
-use Rattle.law_emitted.proofs.CallFaults.{IsSound, Cleared, names_for, name_apart, emitted_has, all_known, all_there, each_sound}
+use Rattle.law_emitted.proofs.UnitFaults.{flat_none}
+use Rattle.law_emitted.proofs.CallFaults.{IsSound, names_for, name_apart, each_known, all_known, all_there, each_sound}
+use Rattle.law_emitted.proofs.SourceNames.{NamesSound}
+use Rattle.law_emitted.proofs.Makings.{Making, as_adjoint, as_forth, as_back, its_shadows, its_plan, its_helpers, its_code, made, is_made}
 use Rattle.law_emitted.proofs.ActualFaults.{emitted_clean}
-use Rattle.law_emitted.proofs.SparedLoops.{body_spared}
+use Rattle.law_emitted.proofs.SparedLoops.{body_spared, forth_spared, back_spared}
 use Rattle.law_emitted.proofs.RenamedWrites.{renamed_spared}
-use Rattle.law_emitted.proofs.HandedBack.{common, HandBackNoMore, inside_writes, unit_known, unit_writes, handed_no_more}
+use Rattle.law_emitted.proofs.HandedBack.{common, HandBackNoMore, inside_writes, unit_known, made_writes, handed_no_more}
 
 -- ---- extents
 
@@ -105,9 +106,15 @@ tame_of ps u h = (
   kept_of (handed_back ps) u (none_front (written_extents (handed_back ps) u) _ (none_behind (written_variables (handed_back ps) u) _ h)),
 )
 
-module _ (sb : Bool) (m : ProgramMarks) (ps : List Procedure) (head : Procedure) (vars outvars : List Bool) (named : Each (λ u. IsName u.name) ps) (known : CallUnits ps ps) (sound : Each (IsSound m ps) ps) where
+module _ (sb : Bool) (m : ProgramMarks) (ps : List Procedure) (head : Procedure) (vars outvars : List Bool) (named : Each (λ u. IsName u.name) ps) (known : CallUnits ps ps) (sound : Each (IsSound sb m ps) ps) where
   abbrev qs : List Procedure
   qs = emitted_units_with sb m ps head vars outvars ps
+
+  abbrev units : List (List ℕ)
+  units = all_units m ps head
+
+  abbrev sc : Schedules
+  sc = schedules_in sb ps
 
   abbrev f : Dummies
   f = handed_back qs
@@ -134,46 +141,48 @@ module _ (sb : Bool) (m : ProgramMarks) (ps : List Procedure) (head : Procedure)
       closed : CallsInside (is_carried_with sb m ps head) u.body
       closed = let c = common sb m ps head vars outvars named known sound in c.closed u.name u h found
 
-  made_neither : (u : Procedure) (s : IsSound m ps u) (at_turn at_end : List (List ℕ)) → Cleared sb m ps head vars outvars named known sound u at_turn → Cleared sb m ps head vars outvars named known sound u at_end → find_unit ps u.name ≡ Some u → IsTame ps u → has_adjoint m ps head u.name ≡ true → HasNeither (adjoint_unit_with sb m ps (all_units m ps head) u at_turn at_end)
-  made_neither u s at_turn at_end turned ended found tame there = (
-    of_spared f unit
-        (renamed_spared f (naming ns) (name_apart sb m ps head vars outvars named known sound u s at_turn at_end turned ended) (adjoint_body_with (schedules_in sb ps) (plan_in m ps u) (first_statement ps u.name) u.line u.body at_turn at_end)
-        (body_spared f g (schedules_in sb ps) (plan_in m ps u) (first_statement ps u.name) u.line u.body at_turn at_end (unit_known sb m ps head vars outvars named known sound f back u s found there) tame.0)),
-    of_kept f unit unwritten,
-  )
-    where
-      ns : List Named
-      ns = names_for sb m ps head vars outvars named known sound u
+  module _ (u : Procedure) (s : IsSound sb m ps u) (found : find_unit ps u.name ≡ Some u) (tame : IsTame ps u) where
+    -- no loop in what is made of a unit writes its variable
+    code_spared : (k : Making) → is_made m ps head u k ≡ true → AreSpared f (its_code sb m ps u k)
+    code_spared (as_adjoint at_turn at_end) there = body_spared f g sc (its_plan m ps u (as_adjoint at_turn at_end)) (first_statement ps u.name) u.line u.body at_turn at_end (unit_known sb m ps head vars outvars named known sound f back u s found (as_adjoint at_turn at_end) there) tame.0
+    code_spared as_forth there = forth_spared f g sc (its_plan m ps u as_forth) (first_statement ps u.name) u.line (left_by ps u) u.body (unit_known sb m ps head vars outvars named known sound f back u s found as_forth there) tame.0
+    code_spared as_back there = back_spared f g sc (its_plan m ps u as_back) (first_statement ps u.name) u.line (left_by ps u) u.body (unit_known sb m ps head vars outvars named known sound f back u s found as_back there) tame.0
 
-      unit : Procedure
-      unit = adjoint_unit_with sb m ps (all_units m ps head) u at_turn at_end
+    made_neither : (k : Making) → is_made m ps head u k ≡ true → HasNeither (made sb m ps (all_units m ps head) u k)
+    made_neither k there = (of_spared f unit (renamed_spared f (naming ns) (name_apart sb m ps head vars outvars named known sound u s k) (its_code sb m ps u k) (code_spared k there)), of_kept f unit unwritten)
+      where
+        ns : List Named
+        ns = names_for sb m ps head vars outvars named known sound u s k
 
-      unwritten : (d : List ℕ) → is_dummy unit d ≡ true → is_extent d unit.declarations ≡ true → writes f (plain d) unit.body ≡ false
-      unwritten d k e =
-          let own = made_extent d (m.shadowed u.name) ns u (variables u) (helpers_used_with (schedules_in sb ps) (plan_in m ps u) (first_statement ps u.name) u.body) e in
-          let dummy = s.0.1.extent_dummy d own in
-          let kept : writes g (plain d) u.body ≡ false = tame.1 d dummy own in
-          not_true (writes f (plain d) unit.body) (λ w. let z : true ≡ false = sym (unit_writes sb m ps head vars outvars named known sound f back u s at_turn at_end turned ended found there d (dummy_among u d dummy) w) ∙ kept in cc)
+        unit : Procedure
+        unit = made sb m ps (all_units m ps head) u k
 
-  all_neither : SplitsNothing m → Each (Found ps) ps → Each (IsTame ps) ps → Each HasNeither qs
-  all_neither unsplit found tame =
-      each_emitted sb m ps head vars outvars unsplit HasNeither ps (each_more (λ u. Found ps u × IsTame ps u) (λ u. is_carried_with sb m ps head u.name ≡ true → HasNeither u) (λ u k h. carried_neither u k.0.0 k.1 h) ps (each_both (Found ps) (IsTame ps) ps found tame))
-      (each_more (λ u. (Found ps u × IsTame ps u) × IsSound m ps u) (λ u. has_adjoint m ps head u.name ≡ true → HasNeither (emitted_adjoint_with sb m ps head vars outvars u))
-      (λ u k there. emitted_has sb m ps head vars outvars named known sound (λ u v. find_unit ps u.name ≡ Some u → IsTame ps u → has_adjoint m ps head u.name ≡ true → HasNeither v) made_neither u k.1 k.0.0.0 k.0.1 there) ps
-      (each_both (λ u. Found ps u × IsTame ps u) (IsSound m ps) ps (each_both (Found ps) (IsTame ps) ps found tame) sound))
+        names : NamesSound ps u
+        names = s.names
 
-  emitted_none : SplitsNothing m → Each (Found ps) ps → Each (IsTame ps) ps → write_faults qs ≡ []
-  emitted_none unsplit found tame =
+        unwritten : (d : List ℕ) → is_dummy unit d ≡ true → is_extent d unit.declarations ≡ true → writes f (plain d) unit.body ≡ false
+        unwritten d j e =
+            let own = made_extent d (its_shadows m u k) ns u (variables u) (its_helpers sb m ps u k) e in
+            let dummy = names.extent_dummy d own in
+            let kept : writes g (plain d) u.body ≡ false = tame.1 d dummy own in
+            not_true (writes f (plain d) unit.body) (λ w. let z : true ≡ false = sym (made_writes sb m ps head vars outvars named known sound f back u s found k there d dummy w) ∙ kept in cc)
+
+  all_neither : Each (Found ps) ps → ((u : Procedure) → find_unit ps u.name ≡ Some u → IsTame ps u) → Each HasNeither qs
+  all_neither found tame =
+      each_known sb m ps head vars outvars named known sound HasNeither found (λ u is s h. carried_neither u is (tame u is) h) (λ u s k clears is there. made_neither u s is (tame u is) k there)
+
+  emitted_none : Each (Found ps) ps → Each (IsTame ps) ps → write_faults qs ≡ []
+  emitted_none found tame =
       flat_none (faults_of_writes f) qs
       (each_more (λ v. HasNeither v × (shared_variables f v ++ written_values f v ≡ [])) (λ v. faults_of_writes f v ≡ []) (λ v h. λ i. h.0.0 i ++ (h.0.1 i ++ h.1 i)) qs
-      (each_both HasNeither (λ v. shared_variables f v ++ written_values f v ≡ []) qs (all_neither unsplit found tame) (none_each (λ v. shared_variables f v ++ written_values f v) qs (emitted_clean f sb m ps head vars outvars named known sound unsplit found))))
+      (each_both HasNeither (λ v. shared_variables f v ++ written_values f v ≡ []) qs (all_neither found (λ u is. each_found (IsTame ps) ps tame u.name u is)) (none_each (λ v. shared_variables f v ++ written_values f v) qs (emitted_clean f sb m ps head vars outvars named known sound found))))
 
 pub writes_have_none : WritesHaveNone
-writes_have_none rules ps checked sb m unsplit shadowed head vars outvars = go (unit_at head ps)
+writes_have_none rules ps checked sb m shadowed may head vars outvars = go (unit_at head ps)
   where
     tame : Each (IsTame ps) ps
     tame = each_more (λ u. faults_of_writes (handed_back ps) u ≡ []) (IsTame ps) (λ u h. tame_of ps u h) ps (none_each (faults_of_writes (handed_back ps)) ps (sound_has_none rules ps checked.sound).writes)
 
     go : (us : List Procedure) → write_faults (emitted_for_with sb m ps vars outvars us) ≡ []
     go [] = refl
-    go (u ∷ us) = emitted_none sb m ps u vars outvars (all_named rules ps checked) (all_known rules ps checked) (each_sound rules ps checked m unsplit shadowed) unsplit (all_there rules ps checked) tame
+    go (u ∷ us) = emitted_none sb m ps u vars outvars (all_named rules ps checked) (all_known rules ps checked) (each_sound rules ps checked sb m shadowed may) (all_there rules ps checked) tame

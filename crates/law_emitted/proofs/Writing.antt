@@ -1,7 +1,7 @@
 -- What the sweeps of a unit may write: of the unit's variables those that the unit may write, and no turn of an outer loop. So no loop writes its variable.
-use Rattle.std.proofs.Common.{◌≡◌, ℕ, suc, ◌<◌, Bool, true, false, List, [], ◌∷◌, refl, sym, ◌∙◌, arith, if◌then◌else◌, subst}
+use Rattle.std.proofs.Common.{◌≡◌, ℕ, suc, ◌<◌, Bool, true, false, List, [], ◌∷◌, refl, sym, ◌∙◌, arith, if◌then◌else◌}
 use Rattle.std.specs.Prelude.{◌&&◌, ◌||◌, not, Option, Some, None}
-use Rattle.adj_tree.specs.Code.{Role, work, temp, control, first, stride, count, turn, entry, entries, kind, lower, upper, slots, Var, var_eq, plain, shadow, helper, plus, Term, var, bin, Terms, none, more, Test, Mark, unmarked, with_count, count_from, push_word, pop_word, push_array, pop_array, push_control, zero_array, Act, assign, choose, loop, during, call, runtime, Code, stop, step}
+use Rattle.adj_tree.specs.Code.{Role, work, temp, control, first, stride, count, turn, entry, entries, kind, lower, upper, slots, Var, var_eq, name_eq, plain, shadow, helper, plus, Term, var, bin, Terms, none, more, Test, Mark, unmarked, with_count, count_from, push_word, pop_word, push_array, pop_array, push_control, zero_array, Act, assign, choose, loop, during, call, runtime, Code, stop, step}
 use Rattle.def_meaning.specs.Append.{◌+++◌, one}
 use Rattle.def_meaning.specs.LeastSet.{Dummies}
 use Rattle.def_meaning.specs.Written.{is_handed_back, act_writes, writes}
@@ -15,9 +15,9 @@ use Rattle.def_sweep.specs.Plan.{Callee, Plan, is_emitted, names_of, actuals_nam
 use Rattle.def_sweep.specs.ReversalCode.{at_turn, arm, advance, arms, reversal, slots_of, set_slots, push_slots, pop_slots, reversed_forward, reversed_backward, row_forward, row_backward}
 use Rattle.def_sweep.specs.Rows.{is_empty, push, pop, pushes, pops, literal, adjoint_call, with_shadows, told_forward, told_backward, loop_forward, loop_backward, while_forward, while_backward, reset}
 use Rattle.def_sweep.specs.Emission.{forward_act_with, forward_with, backward_act_with, backward_with, cleared, adjoint_body_with}
-use Rattle.def_sweep.proofs.UnsplitRows.{unsplit_forward, unsplit_backward}
+use Rattle.def_sweep.specs.SplitRows.{forth_body, back_body}
 use Rattle.law_emitted.proofs.Lists.{Each}
-use Rattle.law_emitted.proofs.StepCalls.{step_body, step_mark, from_keep, from_turn, from_advance}
+use Rattle.law_emitted.proofs.StepCalls.{step_body, from_keep, from_turn, from_advance}
 use Rattle.law_emitted.proofs.Assigned.{IsMade, AreMaking, making_adjoint}
 
 -- ---- the variables of a unit and those that are made for it
@@ -106,17 +106,19 @@ raised k line = one line (assign (helper count k) none (bin plus (var (helper co
 -- ---- what is known of the source: f says which dummies are written in what is emitted, g which in the source
 
 module _ (f g : Dummies) (sc : Schedules) (p : Plan) where
-  -- of a CALL: what it and the call of the adjoint hand back, and what is pushed and popped for it, the source's CALL hands back; and it isn't split
+  -- of a CALL: what it and the calls of what is made of its unit hand back, and what is pushed and popped for it, the source's CALL hands back
   pub record CallWrites (i : ℕ) (name : List ℕ) (args : Terms) : Type 0 where
-    pub kept : p.marks.kept i ≡ true → (v : Var) → is_handed_back v (f name) args ≡ true → is_handed_back v (g name) args ≡ true
-    pub adjointed : p.marks.adjointed i ≡ true → (v : Var) → IsApart v → is_handed_back v (f (p.callees name).adjoint) (with_shadows (p.callees name).shadowed (p.callees name).dummies (names_of args)) ≡ true → is_handed_back v (g name) args ≡ true
+    pub kept : p.marks.kept i ≡ true → p.marks.split i ≡ false → (v : Var) → is_handed_back v (f name) args ≡ true → is_handed_back v (g name) args ≡ true
+    pub adjointed : p.marks.adjointed i ≡ true → p.marks.split i ≡ false → (v : Var) → IsApart v → is_handed_back v (f (p.callees name).adjoint) (with_shadows (p.callees name).shadowed (p.callees name).dummies (names_of args)) ≡ true → is_handed_back v (g name) args ≡ true
+    pub forth : p.marks.split i ≡ true → (v : Var) → IsApart v → is_handed_back v (f (p.callees name).forth) args ≡ true → is_handed_back v (g name) args ≡ true
+    pub back : p.marks.split i ≡ true → (v : Var) → IsApart v → is_handed_back v (f (p.callees name).back) (with_shadows (p.callees name).shadowed (p.callees name).dummies (names_of args)) ≡ true → is_handed_back v (g name) args ≡ true
     pub groups : (v : Var) (dummies actuals : Vars) → ((d : Var) → dummies d ≡ true → (p.callees name).written d ≡ true) → Each (λ a. var_eq v (plain a) ≡ true → is_handed_back v (g name) args ≡ true) (group dummies actuals (p.callees name).dummies (names_of args))
     pub own : (k : ℕ) → is_handed_back (helper turn k) (g name) args ≡ false
-    pub unsplit : p.marks.split i ≡ false
 
-  -- of the step call of a loop that is reversed: what it hands back the body of the loop may write in the source
-  abbrev pub Turned : Code → Step → Type 0
-  Turned body s = (v : Var) → is_handed_back v (f s.name) (actuals_named s.given) ≡ true → writes g v body ≡ true
+  -- of the step call of a loop that is reversed, and of the call of its unit's adjoint: what they hand back the body of the loop may write in the source
+  pub record Turned (body : Code) (s : Step) : Type 0 where
+    pub plainly : (v : Var) → is_handed_back v (f s.name) (actuals_named s.given) ≡ true → writes g v body ≡ true
+    pub adjointed : (v : Var) → IsApart v → is_handed_back v (f (p.callees s.name).adjoint) (with_shadows (p.callees s.name).shadowed (p.callees s.name).dummies s.given) ≡ true → writes g v body ≡ true
 
   abbrev mutual
     pub KnownAct : ℕ → Act → Type 0
@@ -162,23 +164,19 @@ module _ (f g : Dummies) (sc : Schedules) (p : Plan) where
   abbrev pub rows_back : ℕ → ℕ → ℕ → List ℕ → Code → Option Step → Code
   rows_back i d line x body o = found_or o (loop_backward (is_empty (backward_with sc p (suc i) (suc d) body)) (suc d) line (plain x) (backward_with sc p (suc i) (suc d) body)) (λ s. row_backward p i (suc d) line x s)
 
-  -- what is popped for a step call, and what the call of its adjoint hands back
-  pub record StepWrites (body : Code) (s : Step) : Type 0 where
-    pub adjointed : (v : Var) → IsApart v → is_handed_back v (f (p.callees s.name).adjoint) (with_shadows (p.callees s.name).shadowed (p.callees s.name).dummies s.given) ≡ true → writes g v body ≡ true
-    pub groups : (v : Var) (dummies actuals : Vars) → ((d : Var) → dummies d ≡ true → (p.callees s.name).written d ≡ true) → Each (λ a. var_eq v (plain a) ≡ true → writes g v body ≡ true) (group dummies actuals (p.callees s.name).dummies s.given)
+  -- what is popped for a step call
+  abbrev pub StepPops : Code → Step → Type 0
+  StepPops body s = (v : Var) (dummies actuals : Vars) → ((d : Var) → dummies d ≡ true → (p.callees s.name).written d ≡ true) → Each (λ a. var_eq v (plain a) ≡ true → writes g v body ≡ true) (group dummies actuals (p.callees s.name).dummies s.given)
 
   then_each : (v : Var) (a b : Bool) (xs : List (List ℕ)) → (a ≡ true → b ≡ true) → Each (λ x. var_eq v (plain x) ≡ true → a ≡ true) xs → Each (λ x. var_eq v (plain x) ≡ true → b ≡ true) xs
   then_each v a b [] h k = tt
   then_each v a b (x ∷ xs) h k = (λ e. h (k.0 e), then_each v a b xs h k.1)
 
-  pub step_writes : (i : ℕ) (body : Code) (m : Mark) (s : Step) → reversed_by sc p.marks.adjointed i body m ≡ Some s → Known (suc i) body → StepWrites body s
-  step_writes i body m s e = step_body (λ c s. Known (suc i) c → StepWrites c s) there sc p.marks.adjointed i body m s e
+  pub step_pops : (i : ℕ) (body : Code) (m : Mark) (s : Step) → reversed_by sc p.marks.adjointed i body m ≡ Some s → Known (suc i) body → StepPops body s
+  step_pops i body m s e = step_body (λ c s. Known (suc i) c → StepPops c s) there sc p.marks.adjointed i body m s e
     where
-      there : (l : ℕ) (name : List ℕ) (args : Terms) (read : Vars) (k : Mark) → Known (suc i) (step l (call name args) stop) → StepWrites (step l (call name args) stop) (record { name = name; given = names_of args; read = read; mark = k })
-      there l name args read k w = let own = w.0 in record {
-        adjointed = λ v apart h. or_left (is_handed_back v (g name) args) false (own.adjointed (step_mark sc p.marks.adjointed i body m s e).1 v apart h);
-        groups = λ v dummies actuals h. then_each v (is_handed_back v (g name) args) (is_handed_back v (g name) args || false) (group dummies actuals (p.callees name).dummies (names_of args)) (or_left (is_handed_back v (g name) args) false) (own.groups v dummies actuals h);
-      }
+      there : (l : ℕ) (name : List ℕ) (args : Terms) (read : Vars) (k : Mark) → Known (suc i) (step l (call name args) stop) → StepPops (step l (call name args) stop) (record { name = name; given = names_of args; read = read; mark = k })
+      there l name args read k w v dummies actuals h = let own = w.0 in then_each v (is_handed_back v (g name) args) (is_handed_back v (g name) args || false) (group dummies actuals (p.callees name).dummies (names_of args)) (or_left (is_handed_back v (g name) args) false) (own.groups v dummies actuals h)
 
   -- ---- what the sweeps may write, of a variable: only where n holds
 
@@ -313,10 +311,10 @@ module _ (f g : Dummies) (sc : Schedules) (p : Plan) where
     reversed_forward_only : (k line : ℕ) (x : Var) (a b c : Term) (m : Mark) (save keep plain_call : Code) → (var_eq v x ≡ true → n ≡ true) → Only save → Only keep → Only plain_call → Only (reversed_forward k line x a b c m save keep plain_call)
     reversed_forward_only k line x a b c m save keep plain_call t hs hk hp = both (beside (helper first k) tt) (both (beside (helper stride k) tt) (set_slots_only line k m _ (both (beside (helper count k) tt) (only_append save _ hs (only_append keep _ hk (both (both t (only_raised k line plain_call hp)) (push_slots_only line k m _ quiet)))))))
 
-    rows_reversed : (i k line : ℕ) (x : List ℕ) (a b c : Term) (body : Code) (s : Step) → Turned body s → StepWrites body s → var_eq v (helper turn k) ≡ false → (var_eq v (plain x) ≡ true → n ≡ true) → (writes g v body ≡ true → n ≡ true) → Only (row_forward p i k line x a b c s) × Only (row_backward p i k line x s)
+    rows_reversed : (i k line : ℕ) (x : List ℕ) (a b c : Term) (body : Code) (s : Step) → Turned body s → StepPops body s → var_eq v (helper turn k) ≡ false → (var_eq v (plain x) ≡ true → n ≡ true) → (writes g v body ≡ true → n ≡ true) → Only (row_forward p i k line x a b c s) × Only (row_backward p i k line x s)
     rows_reversed i k line x a b c body s turned w outer own inside = (
       reversed_forward_only k line (plain x) a b c s.mark (pushes p line saves) (pushes p line shot) (code_if (p.marks.kept (suc i)) plain_call) own (only_pushes line saves) (only_pushes line shot) (only_if (p.marks.kept (suc i)) plain_call (λ t. called)),
-      reversed_backward_only line k (plain x) s.mark (pushes p line shot) (pops p line shot) plain_call (one line (adjoint_call callee s.given)) outer own (only_pushes line shot) (only_pops line shot popped) called (both (λ e. inside (w.adjointed v apart e)) quiet) (pops p line saves) (only_pops line saves unsaved),
+      reversed_backward_only line k (plain x) s.mark (pushes p line shot) (pops p line shot) plain_call (one line (adjoint_call callee s.given)) outer own (only_pushes line shot) (only_pops line shot popped) called (both (λ e. inside (turned.adjointed v apart e)) quiet) (pops p line saves) (only_pops line saves unsaved),
     )
       where
         callee : Callee
@@ -332,13 +330,13 @@ module _ (f g : Dummies) (sc : Schedules) (p : Plan) where
         plain_call = one line (call s.name (actuals_named s.given))
 
         called : Only (one line (call s.name (actuals_named s.given)))
-        called = both (λ e. inside (turned v e)) quiet
+        called = both (λ e. inside (turned.plainly v e)) quiet
 
         popped : Each (λ y. var_eq v (plain y) ≡ true → n ≡ true) (step_snapshot (p.callees s.name) s.read s.given)
-        popped = then_each v (writes g v body) n (step_snapshot (p.callees s.name) s.read s.given) inside (w.groups v (λ d. (p.callees s.name).written d && ((p.callees s.name).members d || s.read d)) everything (λ d b. (and_true ((p.callees s.name).written d) ((p.callees s.name).members d || s.read d) b).0))
+        popped = then_each v (writes g v body) n (step_snapshot (p.callees s.name) s.read s.given) inside (w v (λ d. (p.callees s.name).written d && ((p.callees s.name).members d || s.read d)) everything (λ d b. (and_true ((p.callees s.name).written d) ((p.callees s.name).members d || s.read d) b).0))
 
         unsaved : Each (λ y. var_eq v (plain y) ≡ true → n ≡ true) (save_group p.marks i (p.callees s.name) s.given)
-        unsaved = then_each v (writes g v body) n (save_group p.marks i (p.callees s.name) s.given) inside (w.groups v (p.callees s.name).written (p.marks.saved i) (λ d b. b))
+        unsaved = then_each v (writes g v body) n (save_group p.marks i (p.callees s.name) s.given) inside (w v (p.callees s.name).written (p.marks.saved i) (λ d b. b))
 
     only_reset : (i line : ℕ) (x : List ℕ) → Only (reset p.marks i line x)
     only_reset i line x = only_if _ (one line (assign (shadow x) none (literal 0))) (λ t. both (beside (shadow x) tt) quiet)
@@ -352,19 +350,25 @@ module _ (f g : Dummies) (sc : Schedules) (p : Plan) where
     inner_turns : (d : ℕ) → IsOuter d → IsOuter (suc d)
     inner_turns d t k l = t k (omega arith)
 
+    only_either : (b : Bool) (c d : Code) → (b ≡ true → Only c) → (b ≡ false → Only d) → Only (if b then c else d)
+    only_either true c d h k = h refl
+    only_either false c d h k = k refl
+
     call_only : (i d line : ℕ) (name : List ℕ) (args : Terms) → CallWrites i name args → (is_handed_back v (g name) args ≡ true → n ≡ true) → Only (forward_act_with sc p i d line (call name args)) × Only (backward_act_with sc p i d line (call name args))
     call_only i d line name args w h =
         let callee = p.callees name in
         let given = names_of args in (
-          subst Only (sym (unsplit_forward sc p i d line name args w.unsplit)) (only_if (is_emitted p.marks i) _ (λ e.
-              only_append (pushes p line (save_group p.marks i callee given)) _ (only_pushes line (save_group p.marks i callee given))
+          only_if (is_emitted p.marks i) _ (λ e.
+              only_either (p.marks.split i) (one line (call callee.forth args)) _ (λ s. both (λ b. h (w.forth s v apart b)) quiet)
+              (λ u. only_append (pushes p line (save_group p.marks i callee given)) _ (only_pushes line (save_group p.marks i callee given))
               (only_append (code_if (p.marks.adjointed i) _) _ (only_if (p.marks.adjointed i) _ (λ t. only_pushes line (snapshot_group callee given)))
-              (only_if (p.marks.kept i) (one line (call name args)) (λ t. both (λ b. h (w.kept t v b)) quiet))))),
-          subst Only (sym (unsplit_backward sc p i d line name args w.unsplit)) (only_if (is_emitted p.marks i) _ (λ e.
-              only_append (code_if (p.marks.adjointed i) _) _
+              (only_if (p.marks.kept i) (one line (call name args)) (λ t. both (λ b. h (w.kept t u v b)) quiet))))),
+          only_if (is_emitted p.marks i) _ (λ e.
+              only_either (p.marks.split i) (one line (call callee.back (with_shadows callee.shadowed callee.dummies given))) _ (λ s. both (λ b. h (w.back s v apart b)) quiet)
+              (λ u. only_append (code_if (p.marks.adjointed i) _) _
               (only_if (p.marks.adjointed i) _ (λ t.
               only_append (pops p line (snapshot_group callee given)) (one line (adjoint_call callee given)) (only_pops line (snapshot_group callee given) (then_each v (is_handed_back v (g name) args) n (snapshot_group callee given) h (w.groups v (λ d. callee.written d && callee.members d) everything (λ d b. (and_true (callee.written d) (callee.members d) b).0))))
-              (both (λ b. h (w.adjointed t v apart b)) quiet)))
+              (both (λ b. h (w.adjointed t u v apart b)) quiet)))
               (only_pops line (save_group p.marks i callee given) (then_each v (is_handed_back v (g name) args) n (save_group p.marks i callee given) h (w.groups v callee.written (p.marks.saved i) (λ d b. b)))))),
         )
 
@@ -375,7 +379,7 @@ module _ (f g : Dummies) (sc : Schedules) (p : Plan) where
           loop_forward_only idle (suc d) line (plain x) a b c (forward_with sc p (suc i) (suc d) body) own both_sweeps.0,
           loop_backward_only idle (suc d) line (plain x) (backward_with sc p (suc i) (suc d) body) outer own both_sweeps.1,
         )
-    rows_only i d line x a b c body m (Some s) e turned w outer own inside both_sweeps = rows_reversed i (suc d) line x a b c body s turned (step_writes i body m s e w) outer own inside
+    rows_only i d line x a b c body m (Some s) e turned w outer own inside both_sweeps = rows_reversed i (suc d) line x a b c body s turned (step_pops i body m s e w) outer own inside
 
     mutual
       act_only : (i d line : ℕ) (a : Act) → KnownAct i a → IsOuter d → (act_writes g v a ≡ true → n ≡ true) → Only (forward_act_with sc p i d line a) × Only (backward_act_with sc p i d line a)
@@ -435,6 +439,20 @@ module _ (f g : Dummies) (sc : Schedules) (p : Plan) where
         let both = list_only i 0 c w t h in
         only_append (forward_with sc p i 0 c) _ both.0 (only_append (cleared p line at_turn) _ (only_cleared line at_turn) (only_append (backward_with sc p i 0 c) (cleared p line at_end) both.1 (only_cleared line at_end)))
 
+    forth_only : (i line : ℕ) (left : List (List ℕ)) (c : Code) → Known i c → IsOuter 0 → (writes g v c ≡ true → n ≡ true) → Only (forth_body sc p i line left c)
+    forth_only i line left c w t h = only_append (forward_with sc p i 0 c) (pushes p line left) (list_only i 0 c w t h).0 (only_pushes line left)
+
+    back_only : (i line : ℕ) (left : List (List ℕ)) (c : Code) → Each (λ a. var_eq v (plain a) ≡ true → n ≡ true) left → Known i c → IsOuter 0 → (writes g v c ≡ true → n ≡ true) → Only (back_body sc p i line left c)
+    back_only i line left c l w t h = only_append (pops p line left) (backward_with sc p i 0 c) (only_pops line left l) (list_only i 0 c w t h).1
+
   -- what the body of an adjoint may write of the unit's variables the unit may write
   pub body_writes : (x : List ℕ) (i line : ℕ) (c : Code) (at_turn at_end : List (List ℕ)) → Known i c → writes f (plain x) (adjoint_body_with sc p i line c at_turn at_end) ≡ true → writes g (plain x) c ≡ true
   body_writes x i line c at_turn at_end w = body_only (plain x) (plain_apart x) (writes g (plain x) c) i line c at_turn at_end w (λ k l. refl) (λ e. e)
+
+  -- so with that of a forward unit
+  pub forth_writes : (x : List ℕ) (i line : ℕ) (left : List (List ℕ)) (c : Code) → Known i c → writes f (plain x) (forth_body sc p i line left c) ≡ true → writes g (plain x) c ≡ true
+  forth_writes x i line left c w = forth_only (plain x) (plain_apart x) (writes g (plain x) c) i line left c w (λ k l. refl) (λ e. e)
+
+  -- and with that of a backward unit, where the unit may write the variable if that is popped
+  pub back_writes : (x : List ℕ) (i line : ℕ) (left : List (List ℕ)) (c : Code) → Each (λ a. name_eq x a ≡ true → writes g (plain x) c ≡ true) left → Known i c → writes f (plain x) (back_body sc p i line left c) ≡ true → writes g (plain x) c ≡ true
+  back_writes x i line left c l w = back_only (plain x) (plain_apart x) (writes g (plain x) c) i line left c l w (λ k l. refl) (λ e. e)

@@ -11,19 +11,17 @@ use Rattle.def_names.specs.ChainFaults.{chain_faults}
 use Rattle.def_names.specs.WriteFaults.{shared_variables, written_values, write_faults}
 use Rattle.def_names.specs.Check.{IsSound}
 use Rattle.def_meaning.specs.LeastSet.{Dummies}
-use Rattle.def_sweep.specs.Marking.{ProgramMarks, SplitsNothing, full_marks, ProgramFacts}
+use Rattle.def_sweep.specs.Marking.{ProgramMarks, full_marks, ProgramFacts}
 use Rattle.def_sweep.specs.Program.{emitted_program_with, emitted_program}
 use Rattle.law_emitted.specs.Checked.{IsChecked, AreLawful}
 use Rattle.law_emitted.specs.Shadowed.{AllHaveShadows}
+use Rattle.law_emitted.specs.Splits.{AllMaySplit}
 
--- Split calls are not treated in this file yet, but for the two limits at its end: the marks split no call. So it is with all marks by which a
--- command emits.
-
--- What is emitted for a checked program in kernel form is written, whatever the marks, as long as they split no call and what they use has shadows,
--- and whether marked loops are reversed by schedules or not.
+-- What is emitted for a checked program in kernel form is written, whatever the marks, as long as what they use has shadows and they split only calls that may
+-- be split, and whether marked loops are reversed by schedules or not.
 abbrev pub MarkedIsWritten : Type 0
 MarkedIsWritten =
-    (rules : Rules) (ps : List Procedure) → IsChecked rules ps → (schedules : Bool) (m : ProgramMarks) → SplitsNothing m → AllHaveShadows m ps ps → (head : ℕ) (vars outvars : List Bool) →
+    (rules : Rules) (ps : List Procedure) → IsChecked rules ps → (schedules : Bool) (m : ProgramMarks) → AllHaveShadows m ps ps → AllMaySplit schedules m ps ps → (head : ℕ) (vars outvars : List Bool) →
     IsWritten (emitted_program_with schedules m ps head vars outvars)
 
 -- so it is with full marks
@@ -36,44 +34,44 @@ LawfulHaveShadows = (rules : Rules) (ps : List Procedure) → IsChecked rules ps
 
 -- ---- it has no faults
 
--- the names of its units are apart, and none is reserved
+-- the names of its units are apart, and none is reserved, by any marks
 abbrev pub UnitsHaveNone : Type 0
-UnitsHaveNone = (rules : Rules) (ps : List Procedure) → IsChecked rules ps → (schedules : Bool) (m : ProgramMarks) → SplitsNothing m → (head : ℕ) (vars outvars : List Bool) → unit_faults (emitted_program_with schedules m ps head vars outvars) ≡ []
+UnitsHaveNone = (rules : Rules) (ps : List Procedure) → IsChecked rules ps → (schedules : Bool) (m : ProgramMarks) (head : ℕ) (vars outvars : List Bool) → unit_faults (emitted_program_with schedules m ps head vars outvars) ≡ []
 
 -- its variables are declared once and stand with as many subscripts as they have extents, and their names are their own
 abbrev pub NamesHaveNone : Type 0
 NamesHaveNone =
-    (rules : Rules) (ps : List Procedure) → IsChecked rules ps → (schedules : Bool) (m : ProgramMarks) → SplitsNothing m → AllHaveShadows m ps ps → (head : ℕ) (vars outvars : List Bool) →
+    (rules : Rules) (ps : List Procedure) → IsChecked rules ps → (schedules : Bool) (m : ProgramMarks) → AllHaveShadows m ps ps → AllMaySplit schedules m ps ps → (head : ℕ) (vars outvars : List Bool) →
     name_faults run_rules (emitted_program_with schedules m ps head vars outvars) ≡ []
 
 -- each of its CALLs is of a unit that it has, with an actual for each dummy, of its rank; and calls of the runtime take arrays where they should
 abbrev pub CallsHaveNone : Type 0
 CallsHaveNone =
-    (rules : Rules) (ps : List Procedure) → IsChecked rules ps → (schedules : Bool) (m : ProgramMarks) → SplitsNothing m → AllHaveShadows m ps ps → (head : ℕ) (vars outvars : List Bool) →
+    (rules : Rules) (ps : List Procedure) → IsChecked rules ps → (schedules : Bool) (m : ProgramMarks) → AllHaveShadows m ps ps → AllMaySplit schedules m ps ps → (head : ℕ) (vars outvars : List Bool) →
     call_faults (emitted_program_with schedules m ps head vars outvars) ≡ []
 
 -- no CALL of it hands one variable to two dummies, and nothing but a name for a dummy that is written, whichever dummies those are
 abbrev pub ActualsHaveNone : Type 0
 ActualsHaveNone =
-    (rules : Rules) (ps : List Procedure) → IsChecked rules ps → (schedules : Bool) (m : ProgramMarks) → SplitsNothing m → AllHaveShadows m ps ps → (head : ℕ) (vars outvars : List Bool) (handed : Dummies) →
+    (rules : Rules) (ps : List Procedure) → IsChecked rules ps → (schedules : Bool) (m : ProgramMarks) → AllHaveShadows m ps ps → AllMaySplit schedules m ps ps → (head : ℕ) (vars outvars : List Bool) (handed : Dummies) →
     flat_map (λ u. shared_variables handed u ++ written_values handed u) (emitted_program_with schedules m ps head vars outvars) ≡ []
 
 -- no calls of it lead back to their unit, and no chain of them is longer than one of the source, which a run takes
 abbrev pub ChainsHaveNone : Type 0
 ChainsHaveNone =
-    (rules : Rules) (ps : List Procedure) → IsChecked rules ps → rules.chain ≤ run_rules.chain → (schedules : Bool) (m : ProgramMarks) → SplitsNothing m → (head : ℕ) (vars outvars : List Bool) →
+    (rules : Rules) (ps : List Procedure) → IsChecked rules ps → rules.chain ≤ run_rules.chain → (schedules : Bool) (m : ProgramMarks) → AllMaySplit schedules m ps ps → (head : ℕ) (vars outvars : List Bool) →
     chain_faults run_rules (emitted_program_with schedules m ps head vars outvars) ≡ []
 
 -- no statement of it writes the variable of a DO in whose body it stands, or an extent, and its CALLs have none of those faults
 abbrev pub WritesHaveNone : Type 0
 WritesHaveNone =
-    (rules : Rules) (ps : List Procedure) → IsChecked rules ps → (schedules : Bool) (m : ProgramMarks) → SplitsNothing m → AllHaveShadows m ps ps → (head : ℕ) (vars outvars : List Bool) →
+    (rules : Rules) (ps : List Procedure) → IsChecked rules ps → (schedules : Bool) (m : ProgramMarks) → AllHaveShadows m ps ps → AllMaySplit schedules m ps ps → (head : ℕ) (vars outvars : List Bool) →
     write_faults (emitted_program_with schedules m ps head vars outvars) ≡ []
 
 -- so it has no fault as a text that is run, where the source's chains of calls are no longer than a run takes
 abbrev pub MarkedIsSound : Type 0
 MarkedIsSound =
-    (rules : Rules) (ps : List Procedure) → IsChecked rules ps → rules.chain ≤ run_rules.chain → (schedules : Bool) (m : ProgramMarks) → SplitsNothing m → AllHaveShadows m ps ps → (head : ℕ) (vars outvars : List Bool) →
+    (rules : Rules) (ps : List Procedure) → IsChecked rules ps → rules.chain ≤ run_rules.chain → (schedules : Bool) (m : ProgramMarks) → AllHaveShadows m ps ps → AllMaySplit schedules m ps ps → (head : ℕ) (vars outvars : List Bool) →
     IsSound run_rules (emitted_program_with schedules m ps head vars outvars)
 
 -- so it is with full marks
@@ -87,7 +85,7 @@ abbrev pub nested_with : Bool → ℕ → ℕ
 nested_with false n = n
 nested_with true n = n + 2
 
--- what is emitted is nested no deeper than the source, or by two where marked loops are reversed by schedules; and so with split calls
+-- what is emitted is nested no deeper than the source, or by two where marked loops are reversed by schedules
 abbrev pub KeepsNesting : Type 0
 KeepsNesting = (n : ℕ) (ps : List Procedure) → IsNested n ps → (schedules : Bool) (m : ProgramMarks) (head : ℕ) (vars outvars : List Bool) → IsNested (nested_with schedules n) (emitted_program_with schedules m ps head vars outvars)
 
@@ -124,6 +122,6 @@ abbrev pub AreShallow : ℕ → List Procedure → Type 0
 AreShallow n [] = Unit {0}
 AreShallow n (u ∷ us) = (deepest u.body ≤ n) × AreShallow n us
 
--- what is emitted has expressions that are at most 3 deeper than those of the source; and so with split calls
+-- what is emitted has expressions that are at most 3 deeper than those of the source
 abbrev pub KeepsDepth : Type 0
 KeepsDepth = (n : ℕ) (ps : List Procedure) → AreShallow n ps → (schedules : Bool) (m : ProgramMarks) (head : ℕ) (vars outvars : List Bool) → AreShallow (n + 3) (emitted_program_with schedules m ps head vars outvars)

@@ -1,14 +1,14 @@
 //! What is emitted for a checked program can be written as a text and has no fault: definitions and laws, no code.
 //!
 //! `specs/Emitted` says what holds of the program that is emitted for a checked program in kernel form, for each of its units as
-//! the head, whether marked loops are reversed by schedules or not. The marks split no call, but for `shadows_law`, `nesting_law` and
-//! `depth_law`. It stands on the theorem on both sweeps and on the names of programs. The layer above uses `written_law`, so that the
+//! the head, whether marked loops are reversed by schedules or not. The marks may split calls: `specs/Splits` says which.
+//! It stands on the theorem on both sweeps and on the names of programs. The layer above uses `written_law`, so that the
 //! text that is written for an adjoint reads as that adjoint.
 #![tactic(auto)]
 
 ghost use Rattle.law_emitted.specs.Emitted.{MarkedIsWritten, EmittedIsWritten, LawfulHaveShadows, UnitsHaveNone, NamesHaveNone, CallsHaveNone, ActualsHaveNone, ChainsHaveNone, WritesHaveNone, MarkedIsSound, EmittedIsSound, KeepsNesting, KeepsDepth};
 
-/// What is emitted can be written as a text, by any marks that split no call and whose shadows are there, and so by full marks.
+/// What is emitted can be written as a text, by any marks whose shadows are there and that split what may be split, and so by full marks.
 pub fn written_law()
     ensures marked { MarkedIsWritten }
     ensures full { EmittedIsWritten }
@@ -19,7 +19,7 @@ pub fn shadows_law()
     ensures { LawfulHaveShadows }
 {}
 
-/// It has no faults of units, by any marks that split no call: their names are apart, and none is reserved.
+/// It has no faults of units, by any marks: their names are apart, and none is reserved.
 pub fn units_law()
     ensures { UnitsHaveNone }
 {}
@@ -49,7 +49,7 @@ pub fn writes_law()
     ensures { WritesHaveNone }
 {}
 
-/// So it has no fault as a text that is run, by any marks that split no call and whose shadows are there, and so by full marks.
+/// So it has no fault as a text that is run, by any marks whose shadows are there and that split what may be split, and so by full marks.
 pub fn sound_law()
     ensures marked { MarkedIsSound }
     ensures full { EmittedIsSound }

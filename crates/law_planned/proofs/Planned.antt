@@ -13,6 +13,7 @@ use Rattle.def_kernel.specs.Stepped.{marked_in, marked_in_act, kernel_of}
 use Rattle.law_kernel.specs.Sound.{IsAccepted}
 use Rattle.law_kernel.proofs.WholeKernels.{whole_units}
 use Rattle.law_emitted.specs.Shadowed.{AllHaveShadows}
+use Rattle.law_emitted.proofs.Calling.{unsplit_may}
 use Rattle.law_emitted.proofs.Programs.{marked_written}
 use Rattle.law_emitted.proofs.SoundPrograms.{marked_sound}
 use Rattle.def_adjoint.specs.Adjoint.{IsAdjointOf}
@@ -77,14 +78,14 @@ spends ps y none weight weighs name u found calls few vars outvars a l saved hel
 
 pub is_written : PlannedIsWritten
 is_written ps y name vars outvars a l saved held x =
-    marked_written run_rules (kernel_of ps) (kernel_checked ps y) false (marks_by ps a l saved held) (λ i. refl) (shadows ps y name vars outvars a l saved held x) (unit_number (kernel_of ps) name) vars outvars
+    marked_written run_rules (kernel_of ps) (kernel_checked ps y) false (marks_by ps a l saved held) (shadows ps y name vars outvars a l saved held x) (unsplit_may false (marks_by ps a l saved held) (λ i. refl) (kernel_of ps) (kernel_of ps)) (unit_number (kernel_of ps) name) vars outvars
 
 pub is_sound : PlannedIsSound
 is_sound ps y name vars outvars a l saved held x qs same =
     let few : run_rules.chain ≤ run_rules.chain = omega arith in
     let m = marks_by ps a l saved held in
     sound_lines run_rules (planned_for ps name vars outvars m) qs same
-    (marked_sound run_rules (kernel_of ps) (kernel_checked ps y) few false m (λ i. refl) (shadows ps y name vars outvars a l saved held x) (unit_number (kernel_of ps) name) vars outvars)
+    (marked_sound run_rules (kernel_of ps) (kernel_checked ps y) few false m (shadows ps y name vars outvars a l saved held x) (unsplit_may false m (λ i. refl) (kernel_of ps) (kernel_of ps)) (unit_number (kernel_of ps) name) vars outvars)
 
 -- ---- where marked loops are reversed by schedules
 
@@ -111,14 +112,14 @@ kernel_spends ps y apart weight each name u found calls few vars outvars a l sav
 
 pub reversed_written : ReversedIsWritten
 reversed_written ps y name vars outvars a l saved held x =
-    marked_written run_rules (kernel_of ps) (kernel_checked ps y) true (marks_by ps a l saved held) (λ i. refl) (shadows ps y name vars outvars a l saved held x) (unit_number (kernel_of ps) name) vars outvars
+    marked_written run_rules (kernel_of ps) (kernel_checked ps y) true (marks_by ps a l saved held) (shadows ps y name vars outvars a l saved held x) (unsplit_may true (marks_by ps a l saved held) (λ i. refl) (kernel_of ps) (kernel_of ps)) (unit_number (kernel_of ps) name) vars outvars
 
 pub reversed_sound : ReversedIsSound
 reversed_sound ps y name vars outvars a l saved held x qs same =
     let few : run_rules.chain ≤ run_rules.chain = omega arith in
     let m = marks_by ps a l saved held in
     sound_lines run_rules (reversed_for ps name vars outvars m) qs same
-    (marked_sound run_rules (kernel_of ps) (kernel_checked ps y) few true m (λ i. refl) (shadows ps y name vars outvars a l saved held x) (unit_number (kernel_of ps) name) vars outvars)
+    (marked_sound run_rules (kernel_of ps) (kernel_checked ps y) few true m (shadows ps y name vars outvars a l saved held x) (unsplit_may true m (λ i. refl) (kernel_of ps) (kernel_of ps)) (unit_number (kernel_of ps) name) vars outvars)
 
 -- ---- where no loop is marked
 

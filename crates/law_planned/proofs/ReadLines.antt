@@ -1,22 +1,23 @@
 -- No two marked loops of a program stand at one line that a text gives: each of its statements begins at a line of its own.
-use Rattle.std.proofs.Common.{arith, ◌≡◌, ◌≤◌, ◌<◌, ℕ, suc, ◌+◌, List, [], ◌∷◌, ◌++◌, length, Bool, true, false, Option, Some, None, Result, Ok, Err, refl, sym, ap, ◌∙◌, subst, if◌then◌else◌}
+use Rattle.std.proofs.Common.{arith, ◌≡◌, ◌≤◌, ◌<◌, ℕ, suc, ◌+◌, List, [], ◌∷◌, ◌++◌, map, length, Bool, true, false, Option, Some, None, Result, Ok, Err, refl, sym, ap, ◌∙◌, subst, if◌then◌else◌}
 use Rattle.std.specs.Prelude.{◌==◌, ◌&&◌, ◌||◌, not, option_to_list}
 use Rattle.std.specs.List.{list_all, list_any}
-use Rattle.adj_tree.specs.Code.{Mark as loop_mark, Terms, none, Runtime, Act, Code, Declaration, Procedure}
+use Rattle.adj_tree.specs.Code.{Mark as loop_mark, Terms, none, Runtime, Act, Code, Declaration}
 use Rattle.adj_tree.specs.declared.fault.Refusal.{Refusal}
 use Rattle.adj_tree.specs.declared.stmt.Mark.{Mark}
 use Rattle.adj_tree.proofs.Names.{nat_same}
+use Rattle.adj_tree.specs.Common.{Common, Shared}
 use Rattle.def_text.specs.Block as blocks
 use Rattle.def_text.specs.Block.{ReadsBody, ReadsAct, ReadsElse}
 use Rattle.def_text.specs.Char.{blank, nought, line_feed, is_between, is_allowed}
 use Rattle.def_text.specs.Class.{class_of, is_matched}
 use Rattle.def_text.specs.Form as forms
-use Rattle.def_text.specs.Form.{Form, subroutine, implicit_none, integers, simple, logical, opens_do, opens_while, end_do, go_on, opens_if, otherwise, otherwise_if, end_if, leaves, ends, Statement, at, ReadsForm}
+use Rattle.def_text.specs.Form.{Form, subroutine, implicit_none, integers, common, simple, logical, opens_do, opens_while, end_do, go_on, opens_if, otherwise, otherwise_if, end_if, leaves, ends, Statement, at, ReadsForm}
 use Rattle.def_text.specs.Limits.{no_limits}
 use Rattle.def_text.specs.Line.{in_front, cut_lines, without_cr, next_number, is_data, column, is_directive, is_comment, is_continuation, body, label_of, operand_of}
 use Rattle.def_text.specs.Lined.{Lines, Directive, Pass, start, flushed, with_directive, with_initial, has_room, with_continuation, behind_directive, with_line, ended, pass_over, lines_of}
 use Rattle.def_text.specs.Reads as texts
-use Rattle.def_text.specs.Reads.{ReadsAll, Reads}
+use Rattle.def_text.specs.Reads.{ReadsAll}
 use Rattle.def_text.specs.Refused.{◌>>=◌, refused}
 use Rattle.def_text.specs.Stated.{tokens_of, is_too_long, is_marked_long, with_tokens, with_class, stated, all_stated}
 use Rattle.def_text.specs.Statement as statements
@@ -27,6 +28,7 @@ use Rattle.def_text.specs.Lexeme.{Lexeme}
 use Rattle.def_text.specs.declared.stated.Kind.{Kind}
 use Rattle.def_text.specs.declared.stated.Stated.{Stated}
 use Rattle.def_text.specs.declared.token.Token.{Token}
+use Rattle.def_text.proofs.Cut.{text_forms}
 use Rattle.def_text.proofs.LinesMarked.{bind_ok}
 use Rattle.def_sweep.specs.MarkedUnits.{is_marked}
 use Rattle.law_analysed.specs.MarkedLines.{marked_in, marked_lines, program_lines}
@@ -221,6 +223,7 @@ form_lines n (opens_do l r m) = n ∷ []
 form_lines n (subroutine x dummies) = []
 form_lines n implicit_none = []
 form_lines n (integers is) = []
+form_lines n (common b is) = []
 form_lines n (opens_while c) = []
 form_lines n end_do = []
 form_lines n go_on = []
@@ -257,6 +260,7 @@ module _ (t : ℕ) where
   form_own n (forms.ReadsForm.heading d) = omega arith
   form_own n forms.ReadsForm.implicit = omega arith
   form_own n (forms.ReadsForm.declaration d) = omega arith
+  form_own n (forms.ReadsForm.shared d) = omega arith
   form_own n (forms.ReadsForm.assigned d) = let zero = assignment_none n d in omega arith
   form_own n (forms.ReadsForm.calls d) = let zero = call_none n d in omega arith
   form_own n (forms.ReadsForm.guarded d e) = let zero = guarded_none n e in omega arith
@@ -314,27 +318,28 @@ module _ (t : ℕ) where
   implicit_lines units.ReadsImplicit.absent = omega arith
   implicit_lines units.ReadsImplicit.present = omega arith
 
-  declared_lines : {ts rest : List Statement} {ds : List Declaration} → ReadsDeclarations ts rest ds → seen rest ≤ seen ts
+  declared_lines : {ts rest : List Statement} {ds : List Declaration} {cs : List Common} → ReadsDeclarations ts rest ds cs → seen rest ≤ seen ts
   declared_lines units.ReadsDeclarations.none = omega arith
+  declared_lines (units.ReadsDeclarations.shared d) = let later = declared_lines d in omega arith
   declared_lines (units.ReadsDeclarations.more d e) = let later = declared_lines d in omega arith
 
   end_lines : {ts rest : List Statement} → ReadsEnd ts rest → seen rest ≤ seen ts
   end_lines units.ReadsEnd.ended = omega arith
   end_lines units.ReadsEnd.returned = omega arith
 
-  unit_lines : {ts rest : List Statement} {p : Procedure} → ReadsUnit ts rest p → tally t (marked_lines p.body) + seen rest ≤ seen ts
+  unit_lines : {ts rest : List Statement} {s : Shared} → ReadsUnit ts rest s → tally t (marked_lines s.unit.body) + seen rest ≤ seen ts
   unit_lines (units.ReadsUnit.unit i d b e) = let one = implicit_lines i in let some = declared_lines d in let inside = body_lines b in let last = end_lines e in omega arith
 
-  units_lines : {ts : List Statement} {ps : List Procedure} → ReadsUnits ts ps → tally t (program_lines ps) ≤ seen ts
+  units_lines : {ts : List Statement} {ss : List Shared} → ReadsUnits ts ss → tally t (program_lines (map (λ s. s.unit) ss)) ≤ seen ts
   units_lines units.ReadsUnits.none = omega arith
-  units_lines (units.ReadsUnits.more {p = p} {ps = ps} u us) = let sum = tally_append t (marked_lines p.body) (program_lines ps) in let here = unit_lines u in let later = units_lines us in omega arith
+  units_lines (units.ReadsUnits.more {s = s} {ss = ss} u us) = let sum = tally_append t (marked_lines s.unit.body) (program_lines (map (λ s. s.unit) ss)) in let here = unit_lines u in let later = units_lines us in omega arith
 
 pub read_apart : ReadHaveLinesApart
-read_apart bytes ps r few = are_apart (program_lines ps) (λ t. each t)
+read_apart bytes ss r few = are_apart (program_lines (map (λ s. s.unit) ss)) (λ t. each t)
   where
-    each : (t : ℕ) → tally t (program_lines ps) ≤ 1
+    each : (t : ℕ) → tally t (program_lines (map (λ s. s.unit) ss)) ≤ 1
     each t =
-        let a = bind_ok (lines_of no_limits bytes) (all_stated no_limits) r.stated r.lines_form in
+        let a = bind_ok (lines_of no_limits bytes) (all_stated no_limits) r.stated (text_forms bytes r.stated r.lines_form) in
         let spread = all_spread bytes a.0 few a.1 t in
         let class = all_classed t a.0 r.stated a.2 in
         let says = all_seen t r.lexemes_derive in

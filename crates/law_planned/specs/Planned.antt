@@ -1,9 +1,10 @@
 -- What is emitted for the kernel of an accepted program by the marks of exact analyses. (docs/THEOREMS.md, "Adjoints")
-use Rattle.std.specs.Prelude.{◌≡◌, ◌<◌, ℕ, List, length, Bool, true, Some, None}
+use Rattle.std.specs.Prelude.{◌≡◌, ◌<◌, ℕ, List, map, length, Bool, true, Some, None}
 use Rattle.adj_tree.specs.Code.{Procedure}
 use Rattle.adj_tree.specs.Lines.{unlined}
+use Rattle.adj_tree.specs.Common.{Shared}
 use Rattle.def_meaning.specs.Written.{find_unit}
-use Rattle.def_text.specs.Reads.{Reads}
+use Rattle.def_text.specs.Reads.{ReadsShared}
 use Rattle.def_text.specs.Written.{IsWritten}
 use Rattle.def_names.specs.Fault.{run_rules}
 use Rattle.def_names.specs.Check.{IsSound}
@@ -34,9 +35,9 @@ KernelIsUnmarked = (ps : List Procedure) → HasNoMarks ps → HasNoMarks (kerne
 abbrev pub KernelKeepsLines : Type 0
 KernelKeepsLines = (ps : List Procedure) → AreLinesApart (program_lines ps) → AreLinesApart (program_lines (kernel_of ps))
 
--- No two of a program stand at one line that a text gives: each statement begins at a line of its own. (Line numbers stand still at 2^32 - 1.)
+-- No two of the units of a text stand at one line that it gives: each statement begins at a line of its own. (Line numbers stand still at 2^32 - 1.)
 abbrev pub ReadHaveLinesApart : Type 0
-ReadHaveLinesApart = (bytes : List ℕ) (ps : List Procedure) → Reads bytes ps → length bytes < 4294967295 → AreLinesApart (program_lines ps)
+ReadHaveLinesApart = (bytes : List ℕ) (ss : List Shared) → ReadsShared bytes ss → length bytes < 4294967295 → AreLinesApart (program_lines (map (λ s. s.unit) ss))
 
 -- what is emitted for it by some marks
 abbrev pub planned_for : List Procedure → List ℕ → List Bool → List Bool → ProgramMarks → List Procedure

@@ -4,6 +4,7 @@ use Rattle.def_names.specs.Fault.{run_rules}
 use Rattle.def_names.specs.HeadFaults.{unit_number}
 use Rattle.def_kernel.specs.Stepped.{kernel_of}
 use Rattle.law_kernel.proofs.WholeKernels.{whole_units}
+use Rattle.law_emitted.proofs.Calling.{unsplit_may}
 use Rattle.law_emitted.proofs.Kernels.{kernel_checked, numbered}
 use Rattle.def_flow.specs.Problem.{Problem}
 use Rattle.def_planned.specs.ProgramFacts.{program_facts}
@@ -21,6 +22,6 @@ accepted_has_shape schedules ps accepted name u found vars outvars a l saved hel
       head = k.becomes;
       is_head = k.found;
       shape =
-          emitted_has_shape schedules run_rules (kernel_of ps) checked (program_facts (kernel_of ps) (λ n. false) a l saved held).marks (λ i. refl) (unit_number (kernel_of ps) name) vars outvars k.becomes at
+          emitted_has_shape schedules run_rules (kernel_of ps) checked (program_facts (kernel_of ps) (λ n. false) a l saved held).marks (unsplit_may schedules (program_facts (kernel_of ps) (λ n. false) a l saved held).marks (λ i. refl) (kernel_of ps) (kernel_of ps)) (unit_number (kernel_of ps) name) vars outvars k.becomes at
           (analysed_are_closed run_rules problem checked a l saved held analysed k.becomes at) qs same;
     }

@@ -20,8 +20,10 @@ use Rattle.def_names.specs.StatementsIn.{statements_in}
 use Rattle.def_flow.specs.Standing.{Place, outermost, part_of, body_of, Standing, held_in, standing}
 use Rattle.def_flow.specs.Problem.{IsHead, statements_of}
 use Rattle.def_flow.specs.Activity.{Holds}
+use Rattle.def_flow.specs.Live as live
 use Rattle.law_flow.specs.Laws.{InUnit, facts_of}
 use Rattle.law_flow.proofs.Heads.{head_part}
+use Rattle.adj_reach.specs.Reached.{begins}
 use Rattle.adj_reach.proofs.Members.{is_first, is_later}
 use Rattle.law_flow.proofs.Statements.{analysed_is_closed}
 use Rattle.law_analysed.proofs.Checked.{part_found}
@@ -31,11 +33,11 @@ use Rattle.law_analysed.proofs.Reaching.{taking}
 use Rattle.law_shape.specs.Closed.{IsClosed', IsClosed}
 use Rattle.law_shape.specs.Laws.{FullAreClosed, AnalysedAreClosed}
 
--- ---- what is kept or adjointed throughout is closed
+-- ---- what is kept throughout is closed
 
-module _ (m : Marks) (all : (i : ℕ) → is_emitted m i ≡ true) where
+module _ (m : Marks) (all : (i : ℕ) → m.kept i ≡ true) where
   never : {X : Type 0} (i : ℕ) → is_emitted m i ≡ false → X
-  never i h = absurd (let z : true ≡ false = sym (all i) ∙ h in cc)
+  never i h = absurd (let z : true ≡ false = sym (all i) ∙ (or_false (m.kept i) (m.adjointed i) h).0 in cc)
 
   mutual
     throughout_act : (i : ℕ) (a : Act) → IsClosed' m i a
@@ -43,17 +45,17 @@ module _ (m : Marks) (all : (i : ℕ) → is_emitted m i ≡ true) where
     throughout_act i (choose c a b) = (λ h. never i h, (throughout (suc i) a, throughout (behind (suc i) a) b))
     throughout_act i (loop x a b c body n) = (λ h. never i h, throughout (suc i) body)
     throughout_act i (during c body) = (λ h. never i h, throughout (suc i) body)
-    throughout_act i (call name args) = tt
+    throughout_act i (call name args) = λ h. all i
     throughout_act i (runtime r) = tt
 
-    throughout : (i : ℕ) (c : Code) → IsClosed m i c
+    pub throughout : (i : ℕ) (c : Code) → IsClosed m i c
     throughout i stop = tt
     throughout i (step line a rest) = (throughout_act i a, throughout (next i a) rest)
 
 pub full_are_closed : FullAreClosed
 full_are_closed ps head u f there = throughout (marks_in full_marks u.name) (λ i. refl) (first_statement ps u.name) u.body
 
--- ---- so is a unit in which each holder is kept where what it holds is kept or adjointed
+-- ---- so is a unit in which each holder is kept where what it holds is kept or adjointed, and each split call is kept
 
 -- what stands in the body of a loop is held by it
 holds_body : (i : ℕ) (x : Var) (m : Mark) → Holds i (body_of i x m)
@@ -61,7 +63,7 @@ holds_body i x unmarked = refl
 holds_body i x (with_count n) = refl
 holds_body i x (count_from y) = refl
 
-module _ (w : Facts) (g : Part) (unit : InUnit w g) where
+module _ (w : Facts) (g : Part) (unit : InUnit w g) (splits : (s : Standing) → Contains (statements_of g) s → w.marks.split s.number ≡ true → w.marks.kept s.number ≡ true) where
   -- statements of the unit
   abbrev AllOwn : List Standing → Type 0
   AllOwn ss = (s : Standing) → Contains ss s → Contains (statements_of g) s
@@ -110,20 +112,20 @@ module _ (w : Facts) (g : Part) (unit : InUnit w g) where
         (idle_act i a none.0 none.1 (own_inside at i line a rest h), idle n at (next i a) rest k o (own_behind at i line a rest h))
 
   mutual
-    closed_act : (i : ℕ) (a : Act) → AllOwn (held_in i a) → IsClosed' w.marks i a
-    closed_act i (assign x subs e) h = tt
-    closed_act i (choose c a b) h = (
+    closed_act : (i : ℕ) (a : Act) → AllOwn (held_in i a) → (w.marks.split i ≡ true → w.marks.kept i ≡ true) → IsClosed' w.marks i a
+    closed_act i (assign x subs e) h k = tt
+    closed_act i (choose c a b) h k = (
       λ e. let none = (or_false (w.marks.kept i) (w.marks.adjointed i) e).0 in (idle i (part_of i) (suc i) a none refl (own_part i a b h), idle i (part_of i) (behind (suc i) a) b none refl (own_other i a b h)),
       (closed (part_of i) (suc i) a (own_part i a b h), closed (part_of i) (behind (suc i) a) b (own_other i a b h)),
     )
-    closed_act i (loop x first last by body m) h = (λ e. idle i (body_of i x m) (suc i) body (or_false (w.marks.kept i) (w.marks.adjointed i) e).0 (holds_body i x m) h, closed (body_of i x m) (suc i) body h)
-    closed_act i (during c body) h = (λ e. idle i (part_of i) (suc i) body (or_false (w.marks.kept i) (w.marks.adjointed i) e).0 refl h, closed (part_of i) (suc i) body h)
-    closed_act i (call name args) h = tt
-    closed_act i (runtime r) h = tt
+    closed_act i (loop x first last by body m) h k = (λ e. idle i (body_of i x m) (suc i) body (or_false (w.marks.kept i) (w.marks.adjointed i) e).0 (holds_body i x m) h, closed (body_of i x m) (suc i) body h)
+    closed_act i (during c body) h k = (λ e. idle i (part_of i) (suc i) body (or_false (w.marks.kept i) (w.marks.adjointed i) e).0 refl h, closed (part_of i) (suc i) body h)
+    closed_act i (call name args) h k = k
+    closed_act i (runtime r) h k = tt
 
     closed : (at : Place) (i : ℕ) (c : Code) → AllOwn (standing at i c) → IsClosed w.marks i c
     closed at i stop h = tt
-    closed at i (step line a rest) h = (closed_act i a (own_inside at i line a rest h), closed at (next i a) rest (own_behind at i line a rest h))
+    closed at i (step line a rest) h = (closed_act i a (own_inside at i line a rest h) (splits (self at i line a rest h) (own at i line a rest h)), closed at (next i a) rest (own_behind at i line a rest h))
 
   pub unit_closed : IsClosed w.marks g.first g.unit.body
   unit_closed = closed outermost g.first g.unit.body (λ s c. c)
@@ -174,6 +176,6 @@ analysed_are_closed rules k checked a l saved held y top at u f there =
     let t = taking k (found rules k.units checked) h.0 is finds (length k.units) u.name u f reached in
     let placed_at = placed k.units u.name t.part t.finds in
     let unit : t.part.unit ≡ u = some_same t.part.unit u (sym placed_at.found ∙ f) in
-    let own : IsClosed (facts_of k a l saved held t.part.number).marks t.part.first t.part.unit.body = unit_closed (facts_of k a l saved held t.part.number) t.part (analysed_is_closed k a l saved held y t.part t.takes) in
+    let own : IsClosed (facts_of k a l saved held t.part.number).marks t.part.first t.part.unit.body = unit_closed (facts_of k a l saved held t.part.number) t.part (analysed_is_closed k a l saved held y t.part t.takes) (λ s c h. (y.live.exact (live.kept s.number)).1 (begins (live.split t.takes c h))) in
     subst (λ n. IsClosed (facts_of k a l saved held n).marks (first_statement k.units u.name) u.body) placed_at.number
     (subst (λ n. IsClosed (facts_of k a l saved held t.part.number).marks n u.body) placed_at.first (subst (λ (v : Procedure). IsClosed (facts_of k a l saved held t.part.number).marks t.part.first v.body) unit own))

@@ -1,6 +1,6 @@
 -- Which units code calls, by its text and by marks.
 use Rattle.std.proofs.Common.{◌≡◌, ℕ, zero, suc, Bool, true, false, List, [], ◌∷◌, ◌++◌, map, refl, sym, ap, ◌∙◌, if◌then◌else◌}
-use Rattle.std.specs.Prelude.{◌||◌, ◌&&◌, length, flat_map, Option, Some, None}
+use Rattle.std.specs.Prelude.{◌||◌, ◌&&◌, not, length, flat_map, Option, Some, None}
 use Rattle.std.proofs.lemmas.Grind.{flat_map-append}
 use Rattle.adj_tree.specs.Code.{name_eq, Act, assign, choose, loop, during, call, runtime, Code, stop, step, Procedure}
 use Rattle.adj_tree.specs.Lines.{unlined_act, unlined_code}
@@ -14,21 +14,25 @@ use Rattle.def_sweep.specs.Declared.{unit_name}
 use Rattle.def_names.proofs.Variables.{and_true, or_left, or_right, has_apart}
 use Rattle.def_meaning.proofs.Variables.{name_comm}
 use Rattle.def_sweep.specs.Marking.{first_from}
-use Rattle.def_sweep.specs.Plan.{found_or, Schedules, Step, reversed_by}
+use Rattle.def_sweep.specs.Plan.{Plan, found_or, Schedules, Step, reversed_by}
 use Rattle.def_sweep.specs.Program.{calls_act, calls_in, calls_some, turns_act, turns_in, turns_some, reached_after}
 use Rattle.law_sweep.specs.Source.{is_unit, CallUnits}
 use Rattle.law_sweep.proofs.ByStep.{step_inside}
 use Rattle.law_sweep.proofs.Names.{has-append}
 use Rattle.law_sweep.proofs.Rounds.{either, calls_rise, reached_last}
 use Rattle.law_sweep.proofs.EmittedUnits.{some_there}
-use Rattle.def_adjoint.specs.Shape.{gathered, called}
+use Rattle.def_adjoint.specs.Shape.{gathered, own_call, called}
 use Rattle.law_shape.proofs.Gathered.{gathered_step, inside, due_act, due_code}
 
 -- ---- what is called by marks
 
-module _ (f : ℕ → Bool) (x : List ℕ) where
+-- a split call calls the forward unit, which x isn't
+module _ (p : Plan) (x : List ℕ) (inside : List ℕ → Bool) (apart : (name : List ℕ) → inside name ≡ true → name_eq x (p.callees name).forth ≡ false) where
+  abbrev plainly : ℕ → Bool
+  plainly j = p.marks.kept j && not (p.marks.split j)
+
   abbrev chosen : ℕ → Act → List (List ℕ)
-  chosen i a = if f i then called a else []
+  chosen i a = if p.marks.kept i then called (own_call p i a) else []
 
   none_chosen : (b : Bool) → has_name x (if b then [] else []) ≡ false
   none_chosen true = refl
@@ -39,28 +43,29 @@ module _ (f : ℕ → Bool) (x : List ℕ) where
   with_none false xs = refl
 
   mutual
-    chosen_act : (i : ℕ) (a : Act) → has_name x (due_act chosen i a) ≡ calls_act f x i a
-    chosen_act i (assign y subs e) = none_chosen (f i)
-    chosen_act i (choose c a b) =
-        with_none (f i) (due_code chosen (suc i) a ++ due_code chosen (behind (suc i) a) b)
+    chosen_act : (i : ℕ) (a : Act) → CallsInside' inside a → has_name x (due_act chosen i a) ≡ calls_act plainly x i a
+    chosen_act i (assign y subs e) k = none_chosen (p.marks.kept i)
+    chosen_act i (choose c a b) k =
+        with_none (p.marks.kept i) (due_code chosen (suc i) a ++ due_code chosen (behind (suc i) a) b)
         ∙ has-append x (due_code chosen (suc i) a) (due_code chosen (behind (suc i) a) b)
-        ∙ (λ j. chosen_code (suc i) a j || chosen_code (behind (suc i) a) b j)
-    chosen_act i (loop y a b c body m) = with_none (f i) (due_code chosen (suc i) body) ∙ chosen_code (suc i) body
-    chosen_act i (during c body) = with_none (f i) (due_code chosen (suc i) body) ∙ chosen_code (suc i) body
-    chosen_act i (call name args) = go (f i)
+        ∙ (λ j. chosen_code (suc i) a k.0 j || chosen_code (behind (suc i) a) b k.1 j)
+    chosen_act i (loop y a b c body m) k = with_none (p.marks.kept i) (due_code chosen (suc i) body) ∙ chosen_code (suc i) body k
+    chosen_act i (during c body) k = with_none (p.marks.kept i) (due_code chosen (suc i) body) ∙ chosen_code (suc i) body k
+    chosen_act i (call name args) k = go (p.marks.kept i) (p.marks.split i)
       where
         or_none : (b : Bool) → (b || false) ≡ b
         or_none true = refl
         or_none false = refl
 
-        go : (b : Bool) → has_name x (if b then name ∷ [] else []) ≡ (b && name_eq x name)
-        go true = or_none (name_eq x name)
-        go false = refl
-    chosen_act i (runtime r) = none_chosen (f i)
+        go : (b s : Bool) → has_name x (if b then called (if s then call (p.callees name).forth args else call name args) else []) ≡ ((b && not s) && name_eq x name)
+        go true true = or_none (name_eq x (p.callees name).forth) ∙ apart name k
+        go true false = or_none (name_eq x name)
+        go false s = refl
+    chosen_act i (runtime r) k = none_chosen (p.marks.kept i)
 
-    pub chosen_code : (i : ℕ) (c : Code) → has_name x (due_code (λ i a. if f i then called a else []) i c) ≡ calls_in f x i c
-    chosen_code i stop = refl
-    chosen_code i (step line a rest) = has-append x (due_act chosen i a) (due_code chosen (next i a) rest) ∙ (λ j. chosen_act i a j || chosen_code (next i a) rest j)
+    pub chosen_code : (i : ℕ) (c : Code) → CallsInside inside c → has_name x (due_code (λ i a. if p.marks.kept i then called (own_call p i a) else []) i c) ≡ calls_in (λ j. p.marks.kept j && not (p.marks.split j)) x i c
+    chosen_code i stop k = refl
+    chosen_code i (step line a rest) k = has-append x (due_act chosen i a) (due_code chosen (next i a) rest) ∙ (λ j. chosen_act i a k.0 j || chosen_code (next i a) rest k.1 j)
 
 -- ---- what is called at all
 

@@ -15,11 +15,10 @@ use Rattle.def_sweep.specs.Marks.{active_at}
 use Rattle.def_sweep.specs.Marked.{code_if}
 use Rattle.def_names.proofs.Variables.{and_true, or_false, or_assoc}
 use Rattle.def_meaning.proofs.Variables.{var_refl}
-use Rattle.def_sweep.specs.Plan.{Plan, is_emitted, names_of, actuals_named, found_or, save_group, snapshot_group, step_snapshot, Schedules, Step, reversed_by}
+use Rattle.def_sweep.specs.Plan.{Callee, Plan, is_emitted, names_of, actuals_named, found_or, save_group, snapshot_group, step_snapshot, Schedules, Step, reversed_by}
 use Rattle.def_sweep.specs.AdjointOf.{adjoint_where}
 use Rattle.def_sweep.specs.Rows.{is_empty, push, pop, pushes, pops, literal, told_backward, loop_backward, while_backward, pop_own, reset, resets, with_shadows, adjoint_call}
 use Rattle.def_sweep.specs.Emission.{backward_act_with, backward_with}
-use Rattle.def_sweep.proofs.UnsplitRows.{unsplit_backward}
 use Rattle.def_sweep.specs.ReversalCode.{at_turn, arm, advance, arms, reversal, slots_of, pop_slots, row_backward}
 use Rattle.law_sweep.specs.Laws.{IsIdle', IsIdle}
 use Rattle.def_sweep.specs.Program.{turns_act, turns_in}
@@ -66,8 +65,8 @@ module _ (sc : Schedules) (p : Plan) where
 
 -- ---- the backward sweep
 
-module _ (u : Procedure) (r : Var → Var) (own_kept : (v : Var) → is_own u v ≡ true → r v ≡ v) (own_same : (v : Var) → is_own u (r v) ≡ is_own u v) (units inside_units : List ℕ → Bool) (sc : Schedules) (p : Plan) (unsplit : (i : ℕ) → p.marks.split i ≡ false)
-    (apart : (name : List ℕ) → inside_units name ≡ true → units (p.callees name).adjoint ≡ false) (there : (name : List ℕ) → inside_units name ≡ true → units name ≡ true) where
+module _ (u : Procedure) (r : Var → Var) (own_kept : (v : Var) → is_own u v ≡ true → r v ≡ v) (own_same : (v : Var) → is_own u (r v) ≡ is_own u v) (units inside_units : List ℕ → Bool) (sc : Schedules) (p : Plan)
+    (apart : (name : List ℕ) → inside_units name ≡ true → (units (p.callees name).adjoint ≡ false) × (units (p.callees name).back ≡ false)) (there : (name : List ℕ) → inside_units name ≡ true → units name ≡ true) where
   -- what is done in a list
   abbrev done : Option Var → ℕ → Code → List (ℕ × Act)
   done told k c = done_list (deeds (is_own u) units) told k (seen r c)
@@ -120,7 +119,7 @@ module _ (u : Procedure) (r : Var → Var) (own_kept : (v : Var) → is_own u v 
   -- a call of an adjoint is none of a unit of the kernel
   adjoint_none : (told : Option Var) (k line : ℕ) (name : List ℕ) (given : List (List ℕ)) → inside_units name ≡ true → done told k (one line (adjoint_call (p.callees name) given)) ≡ []
   adjoint_none told k line name given h =
-      ap (λ b. (if b then (k, call (p.callees name).adjoint (rename_terms r (with_shadows (p.callees name).shadowed (p.callees name).dummies given))) ∷ [] else []) ++ []) (apart name h)
+      ap (λ b. (if b then (k, call (p.callees name).adjoint (rename_terms r (with_shadows (p.callees name).shadowed (p.callees name).dummies given))) ∷ [] else []) ++ []) (apart name h).0
 
   -- that of a step unit is
   step_done : (told : Option Var) (k line : ℕ) (s : Step) → AreOwn u s.given → inside_units s.name ≡ true → done told k (one line (call s.name (actuals_named s.given))) ≡ (k, call s.name (actuals_named s.given)) ∷ []
@@ -271,15 +270,26 @@ module _ (u : Procedure) (r : Var → Var) (own_kept : (v : Var) → is_own u v 
         go : (e : Bool) → is_emitted p.marks i ≡ e → done None 0 swept ≡ deeds_back sc p (suc i) body → done None 0 (code_if e (while_backward (is_empty swept) (suc d) line swept)) ≡ deeds_back sc p (suc i) body
         go true e h = while_done (suc d) line swept (deeds_back sc p (suc i) body) h (is_empty swept) refl
         go false e h = let none = or_false (p.marks.kept i) (p.marks.adjointed i) e in sym (idle_act sc p i (during t body) ((none.0, none.1), k.0 e))
-    act_done i d line (call name args) o c k =
-        let g = p.callees name in
-        let saves = save_group p.marks i g (names_of args) in
-        let members = snapshot_group g (names_of args) in
-        ap (done None 0) (unsplit_backward sc p i d line name args (unsplit i))
-        ∙ none_if None 0 (is_emitted p.marks i) (code_if (p.marks.adjointed i) (pops p line members +++ one line (adjoint_call g (names_of args))) +++ pops p line saves)
-        (done_behind None 0 (code_if (p.marks.adjointed i) (pops p line members +++ one line (adjoint_call g (names_of args)))) (pops p line saves)
-        (none_if None 0 (p.marks.adjointed i) (pops p line members +++ one line (adjoint_call g (names_of args))) (done_behind None 0 (pops p line members) (one line (adjoint_call g (names_of args))) (pops_none None 0 line members) ∙ adjoint_none None 0 line name (names_of args) c))
-        ∙ pops_none None 0 line saves)
+    act_done i d line (call name args) o c k = none_if None 0 (is_emitted p.marks i) (if p.marks.split i then one line (call g.back (with_shadows g.shadowed g.dummies (names_of args))) else row) (of_split (p.marks.split i))
+      where
+        g : Callee
+        g = p.callees name
+
+        saves : List (List ℕ)
+        saves = save_group p.marks i g (names_of args)
+
+        members : List (List ℕ)
+        members = snapshot_group g (names_of args)
+
+        row : Code
+        row = code_if (p.marks.adjointed i) (pops p line members +++ one line (adjoint_call g (names_of args))) +++ pops p line saves
+
+        of_split : (s : Bool) → done None 0 (if s then one line (call g.back (with_shadows g.shadowed g.dummies (names_of args))) else row) ≡ []
+        of_split true = ap (λ b. (if b then (0, call g.back (rename_terms r (with_shadows g.shadowed g.dummies (names_of args)))) ∷ [] else []) ++ []) (apart name c).1
+        of_split false =
+            done_behind None 0 (code_if (p.marks.adjointed i) (pops p line members +++ one line (adjoint_call g (names_of args)))) (pops p line saves)
+            (none_if None 0 (p.marks.adjointed i) (pops p line members +++ one line (adjoint_call g (names_of args))) (done_behind None 0 (pops p line members) (one line (adjoint_call g (names_of args))) (pops_none None 0 line members) ∙ adjoint_none None 0 line name (names_of args) c))
+            ∙ pops_none None 0 line saves
     act_done i d line (runtime t) o c k = refl
 
     pub code_done : (i d : ℕ) (c : Code) → OverCode (OwnVar u) NoArray Any c → CallsInside inside_units c → IsClosed p.marks i c → done_list (deeds (is_own u) units) None 0 (seen r (backward_with sc p i d c)) ≡ deeds_back sc p i c

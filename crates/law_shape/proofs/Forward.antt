@@ -1,5 +1,5 @@
 -- What a function gives of a forward sweep, by what it gives of each row.
-use Rattle.std.proofs.Common.{◌≡◌, ℕ, suc, Bool, true, false, List, [], ◌∷◌, ◌++◌, refl, sym, ap, ◌∙◌, append_assoc, append-nil}
+use Rattle.std.proofs.Common.{◌≡◌, ℕ, suc, Bool, true, false, List, [], ◌∷◌, ◌++◌, refl, sym, ap, ◌∙◌, append_assoc, append-nil, if◌then◌else◌}
 use Rattle.std.specs.Prelude.{◌&&◌, Option, Some, None}
 use Rattle.std.proofs.lemmas.Grind.{flat_map-append}
 use Rattle.adj_tree.specs.Code.{Role, Var, plain, shadow, helper, first, stride, count, slots, plus, Term, lit, var, elem, neg, bin, pow, power_of, abs, Terms, none, more, Test, Mark, unmarked, with_count, count_from, push_word, push_control, Act, assign, choose, loop, during, call, runtime, Code, stop, step, Procedure}
@@ -13,7 +13,6 @@ use Rattle.def_names.proofs.Variables.{or_false}
 use Rattle.def_sweep.specs.Plan.{Plan, is_emitted, names_of, actuals_named, found_or, save_group, snapshot_group, step_snapshot, Schedules, Step, reversed_by}
 use Rattle.def_sweep.specs.Rows.{is_empty, pushes, push_own, set_own, literal, told_forward, loop_forward, while_forward}
 use Rattle.def_sweep.specs.Emission.{forward_act_with, forward_with, backward_with}
-use Rattle.def_sweep.proofs.UnsplitRows.{unsplit_forward}
 use Rattle.def_sweep.specs.ReversalCode.{as_slots, set_slots, push_slots, row_forward}
 use Rattle.law_sweep.specs.Laws.{IsIdle', IsIdle}
 use Rattle.law_emitted.proofs.Over.{OverTerm, OverTest, OverActuals, OverAct, OverCode, Any}
@@ -78,7 +77,10 @@ pub record Rows {X : Type 0} (f : Act → List X) (g : ℕ → Act → List X) (
   pub loops : (i line : ℕ) (x : List ℕ) (a b c a' c' : Term) (body body' : Code) (m : Mark) → is_emitted p.marks i ≡ true → is_own u (plain x) ≡ true → OverTerm (OwnVar u) NoArray b →
       gathered f (seen r (code_if (p.marks.saved i (plain x)) (one line (runtime (push_word (plain x) none))))) ++ f (loop (r (plain x)) a' (rename_term r b) c' body' unmarked) ≡ g i (loop (plain x) a b c body m)
   pub whiles : (i : ℕ) (c : Test) (body body' : Code) → is_emitted p.marks i ≡ true → OverTest (OwnVar u) NoArray c → f (during (rename_test r c) body') ≡ g i (during c body)
-  pub calls : (i line : ℕ) (name : List ℕ) (args : Terms) → is_emitted p.marks i ≡ true → OverAct (OwnVar u) NoArray Any (call name args) →
+  -- a call that is split
+  pub splits : (i line : ℕ) (name : List ℕ) (args : Terms) → p.marks.split i ≡ true → p.marks.kept i ≡ true → OverAct (OwnVar u) NoArray Any (call name args) → gathered f (seen r (one line (call (p.callees name).forth args))) ≡ g i (call name args)
+  -- and one that isn't
+  pub calls : (i line : ℕ) (name : List ℕ) (args : Terms) → p.marks.split i ≡ false → is_emitted p.marks i ≡ true → OverAct (OwnVar u) NoArray Any (call name args) →
       gathered f (seen r (pushes p line (save_group p.marks i (p.callees name) (names_of args)) +++ (code_if (p.marks.adjointed i) (pushes p line (snapshot_group (p.callees name) (names_of args))) +++ code_if (p.marks.kept i) (one line (call name args))))) ≡ g i (call name args)
   pub turns : (i line : ℕ) (x : List ℕ) (a b c a' c' : Term) (body body' : Code) (m : Mark) (s : Step) → is_emitted p.marks i ≡ true → is_own u (plain x) ≡ true → OverTerm (OwnVar u) NoArray b → AreOwn u s.given →
       gathered f (seen r (code_if (p.marks.saved i (plain x)) (one line (runtime (push_word (plain x) none)))))
@@ -88,7 +90,7 @@ pub record Rows {X : Type 0} (f : Act → List X) (g : ℕ → Act → List X) (
 pub none_front : {X : Type 0} (xs ys : List X) → xs ≡ [] → xs ++ ys ≡ ys
 none_front xs ys e = ap (λ l. l ++ ys) e
 
-module _ {X : Type 0} (f : Act → List X) (g : ℕ → Act → List X) (h : ℕ → Step → List X) (r : Var → Var) (sc : Schedules) (p : Plan) (unsplit : (i : ℕ) → p.marks.split i ≡ false) (u : Procedure) (rows : Rows f g h r p u) where
+module _ {X : Type 0} (f : Act → List X) (g : ℕ → Act → List X) (h : ℕ → Step → List X) (r : Var → Var) (sc : Schedules) (p : Plan) (u : Procedure) (rows : Rows f g h r p u) where
   -- what is due for a statement and for a list
   abbrev given_act : ℕ → Act → List X
   given_act i a = gathered_act sc p.marks.adjointed g h i a
@@ -314,14 +316,15 @@ module _ {X : Type 0} (f : Act → List X) (g : ℕ → Act → List X) (h : ℕ
         go : (e : Bool) → is_emitted p.marks i ≡ e → gathered f (seen r swept) ≡ given (suc i) body → (is_emitted p.marks i ≡ false → given_act i (during c body) ≡ []) → gathered f (seen r (code_if e (while_forward idle (suc d) line c swept))) ≡ given_act i (during c body)
         go true e turn idled = while_taken i line (suc d) c body e o.0 idle swept ∙ ap (λ l. g i (during c body) ++ l) turn
         go false e turn idled = sym (idled e)
-    act_taken i d line (call name args) o k = ap (λ c. gathered f (seen r c)) (unsplit_forward sc p i d line name args (unsplit i)) ∙ go (is_emitted p.marks i) refl
+    act_taken i d line (call name args) o k = go (is_emitted p.marks i) refl (p.marks.split i) refl
       where
         row : Code
         row = pushes p line (save_group p.marks i (p.callees name) (names_of args)) +++ (code_if (p.marks.adjointed i) (pushes p line (snapshot_group (p.callees name) (names_of args))) +++ code_if (p.marks.kept i) (one line (call name args)))
 
-        go : (e : Bool) → is_emitted p.marks i ≡ e → gathered f (seen r (code_if e row)) ≡ g i (call name args)
-        go true e = rows.calls i line name args e o
-        go false e =
+        go : (e : Bool) → is_emitted p.marks i ≡ e → (s : Bool) → p.marks.split i ≡ s → gathered f (seen r (code_if e (if s then one line (call (p.callees name).forth args) else row))) ≡ g i (call name args)
+        go true e true h = rows.splits i line name args h (k h) o
+        go true e false h = rows.calls i line name args h e o
+        go false e s h =
             let none = or_false (p.marks.kept i) (p.marks.adjointed i) e in
             sym (rows.idle i (call name args) none.0 none.1)
     act_taken i d line (runtime c) o k = sym (rows.ran i (runtime c) tt)

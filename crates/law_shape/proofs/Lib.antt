@@ -8,6 +8,7 @@ pub mod Sparing
 pub mod Sweeps
 pub mod Deeds
 pub mod Calls
+pub mod Swept
 pub mod Adjoint
 pub mod Program
 pub mod Analysed

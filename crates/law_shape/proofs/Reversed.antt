@@ -52,13 +52,8 @@ turning_shaped = record {
   forth = unlined_code (turning_forth turned stop);
   back = unlined_code (turning_back keeps steps_once turns_once);
   body = refl;
-  keeps = refl;
-  spares = refl;
-  pushes_alone = refl;
-  saves = refl;
-  sparing = refl;
-  reverses = refl;
-  assigns = refl;
+  forward = record { keeps = refl; spares = refl; pushes_alone = refl; saves = refl; sparing = refl };
+  backward = record { reverses = refl; assigns = refl };
 }
 
 squaring_shaped : IsAdjointUnit true reversing turning_program turning only_second only_second squaring (unlined_procedure squaring_back)
@@ -69,13 +64,8 @@ squaring_shaped = record {
   forth = stop;
   back = unlined_code (all_at 11 squared_back stop);
   body = refl;
-  keeps = refl;
-  spares = refl;
-  pushes_alone = refl;
-  saves = refl;
-  sparing = refl;
-  reverses = refl;
-  assigns = refl;
+  forward = record { keeps = refl; spares = refl; pushes_alone = refl; saves = refl; sparing = refl };
+  backward = record { reverses = refl; assigns = refl };
 }
 
 -- the same where N says how many snapshots there are
@@ -90,13 +80,8 @@ numbered_adjoint = record {
   forth = unlined_code (numbered_forth turned stop);
   back = unlined_code (numbered_back snapshots);
   body = refl;
-  keeps = refl;
-  spares = refl;
-  pushes_alone = refl;
-  saves = refl;
-  sparing = refl;
-  reverses = refl;
-  assigns = refl;
+  forward = record { keeps = refl; spares = refl; pushes_alone = refl; saves = refl; sparing = refl };
+  backward = record { reverses = refl; assigns = refl };
 }
 
 numbered_squaring : IsAdjointUnit true reversing numbered_program numbered only_second only_second squaring (unlined_procedure squaring_back)
@@ -107,20 +92,15 @@ numbered_squaring = record {
   forth = stop;
   back = unlined_code (all_at 11 squared_back stop);
   body = refl;
-  keeps = refl;
-  spares = refl;
-  pushes_alone = refl;
-  saves = refl;
-  sparing = refl;
-  reverses = refl;
-  assigns = refl;
+  forward = record { keeps = refl; spares = refl; pushes_alone = refl; saves = refl; sparing = refl };
+  backward = record { reverses = refl; assigns = refl };
 }
 
 abbrev made_numbered : Procedure → Procedure
 made_numbered u = if name_eq (codes "P") u.name then unlined_procedure (numbered_unit (numbered_forth turned (numbered_back snapshots))) else unlined_procedure squaring_back
 
 pub numbered_shaped : HasShape true reversing numbered_program numbered only_second only_second numbered_reversed
-numbered_shaped = record { made = made_numbered; units = refl; adjoints = λ u f a. go u (name_eq (codes "P") u.name) refl (name_eq (codes "Q") u.name) f }
+numbered_shaped = record { made = made_numbered; forth = λ u. u; back = λ u. u; units = refl; adjoints = λ u f a. go u (name_eq (codes "P") u.name) refl (name_eq (codes "Q") u.name) f; pairs = λ u f a. absurd (let z : false ≡ true = a in cc) }
   where
     go : (u : Procedure) (b : Bool) → name_eq (codes "P") u.name ≡ b → (c : Bool) → (if b then Some numbered else (if c then Some squaring else find_unit [] u.name)) ≡ Some u → IsAdjointUnit true reversing numbered_program numbered only_second only_second u (made_numbered u)
     go u true e c f = let same : numbered ≡ u = cc in subst (λ v. IsAdjointUnit true reversing numbered_program numbered only_second only_second v (made_numbered v)) same numbered_adjoint
@@ -131,7 +111,7 @@ abbrev made : Procedure → Procedure
 made u = if name_eq (codes "P") u.name then unlined_procedure (unit_with (turning_forth turned (turning_back keeps steps_once turns_once))) else unlined_procedure squaring_back
 
 pub reversed_shaped : HasShape true reversing turning_program turning only_second only_second reversed
-reversed_shaped = record { made = made; units = refl; adjoints = λ u f a. go u (name_eq (codes "P") u.name) refl (name_eq (codes "Q") u.name) f }
+reversed_shaped = record { made = made; forth = λ u. u; back = λ u. u; units = refl; adjoints = λ u f a. go u (name_eq (codes "P") u.name) refl (name_eq (codes "Q") u.name) f; pairs = λ u f a. absurd (let z : false ≡ true = a in cc) }
   where
     go : (u : Procedure) (b : Bool) → name_eq (codes "P") u.name ≡ b → (c : Bool) → (if b then Some turning else (if c then Some squaring else find_unit [] u.name)) ≡ Some u → IsAdjointUnit true reversing turning_program turning only_second only_second u (made u)
     go u true e c f = let same : turning ≡ u = cc in subst (λ v. IsAdjointUnit true reversing turning_program turning only_second only_second v (made v)) same turning_shaped
@@ -192,7 +172,7 @@ module _ (mark : Mark) (due : are_due (due_here mark) ≡ true) (a : Procedure) 
   pub not_reversed : none_cut reverses_so stop (unlined_code a.body) ≡ true → HasShape true reversing (directed_program mark) (directed mark) only_second only_second (a ∷ others) → ⊥
   not_reversed h x =
       let s = first_shaped x in
-      let yes : reverses_so s.forth s.back ≡ true = ap are_due s.reverses ∙ due in
+      let yes : reverses_so s.forth s.back ≡ true = ap are_due s.backward.reverses ∙ due in
       let z : true ≡ false = sym yes ∙ not_cut s reverses_so h in
       cc
 
@@ -203,7 +183,7 @@ module _ (mark : Mark) (due : are_due (due_here mark) ≡ true) (a : Procedure) 
   pub not_kept : none_cut keeps_so stop (unlined_code a.body) ≡ true → HasShape true reversing (directed_program mark) (directed mark) only_second only_second (a ∷ others) → ⊥
   not_kept h x =
       let s = first_shaped x in
-      let yes : keeps_so s.forth s.back ≡ true = ap (λ l. name_eq (map kind l) (4 ∷ 1 ∷ [])) s.keeps in
+      let yes : keeps_so s.forth s.back ≡ true = ap (λ l. name_eq (map kind l) (4 ∷ 1 ∷ [])) s.forward.keeps in
       let z : true ≡ false = sym yes ∙ not_cut s keeps_so h in
       cc
 
@@ -214,7 +194,7 @@ module _ (mark : Mark) (due : are_due (due_here mark) ≡ true) (a : Procedure) 
   pub not_restoring : none_cut restores_so stop (unlined_code a.body) ≡ true → HasShape true reversing (directed_program mark) (directed mark) only_second only_second (a ∷ others) → ⊥
   not_restoring h x =
       let s = first_shaped x in
-      let yes : restores_so s.forth s.back ≡ true = λ j. (name_eq (map kind (s.keeps j)) (4 ∷ 1 ∷ []) && s.pushes_alone j) && s.assigns j in
+      let yes : restores_so s.forth s.back ≡ true = λ j. (name_eq (map kind (s.forward.keeps j)) (4 ∷ 1 ∷ []) && s.forward.pushes_alone j) && s.backward.assigns j in
       let z : true ≡ false = sym yes ∙ not_cut s restores_so h in
       cc
 

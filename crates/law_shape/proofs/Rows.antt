@@ -1,17 +1,18 @@
 -- What stands in the rows of a forward sweep: what is kept, what is pushed, and what is called.
 use Rattle.std.proofs.Common.{◌≡◌, ℕ, suc, Bool, true, false, List, [], ◌∷◌, ◌++◌, map, refl, sym, ap, ◌∙◌, append_assoc, append-nil, if◌then◌else◌}
-use Rattle.std.specs.Prelude.{◌||◌, ◌&&◌, pos, Option, Some, None}
+use Rattle.std.specs.Prelude.{◌||◌, ◌&&◌, not, pos, Option, Some, None}
 use Rattle.adj_tree.specs.Code.{Role, Var, plain, shadow, helper, Term, lit, var, elem, neg, bin, pow, power_of, abs, Terms, none, more, Test, compare, negation, conjunction, disjunction, Mark, unmarked, Runtime, push_word, push_array, Act, assign, choose, loop, during, call, runtime, Code, stop, step, Procedure}
 use Rattle.def_meaning.specs.Append.{◌+++◌, one}
 use Rattle.def_meaning.specs.Rename.{rename_term, rename_terms, rename_test, rename_runtime}
 use Rattle.def_names.specs.Numbers.{Vars, everything, next, behind}
 use Rattle.def_sweep.specs.Marked.{code_if}
-use Rattle.def_sweep.specs.Plan.{Plan, is_emitted, names_of, actuals_named, found_or, group, save_group, snapshot_group, step_snapshot, Schedules, Step, reversed_by}
+use Rattle.def_sweep.specs.Plan.{Plan, is_emitted, names_of, actuals_named, found_or, group, save_group, snapshot_group, step_snapshot, Schedules, Step, reversed_by, ByStep}
 use Rattle.def_sweep.specs.Rows.{pushes}
 use Rattle.def_kernel.specs.Form.{AreDistinctNames, IsKernelAct, IsKernelCode}
+use Rattle.law_emitted.specs.Splits.{MaySplit', MaySplit}
 use Rattle.law_emitted.proofs.Over.{OverTerm, OverTerms, OverTest, OverPlace, OverActual, OverActuals, OverAct, OverCode, Any}
 use Rattle.law_emitted.proofs.StepCalls.{step_body}
-use Rattle.def_adjoint.specs.Shape.{gathered, gathered_act, gathered_list, is_own, primal, stays, kept_of, pushed, push_whole, due, due_turns, called}
+use Rattle.def_adjoint.specs.Shape.{gathered, gathered_act, gathered_list, is_own, primal, stays, kept_of, pushed, push_whole, own_call, due, due_turns, called}
 use Rattle.law_shape.proofs.Gathered.{due_act, due_code, seen, taken_append}
 use Rattle.law_shape.proofs.Forward.{OwnVar, NoArray, AreOwn, names_own, IsRuntime, Rows, none_front}
 
@@ -55,28 +56,28 @@ named_again u (more (abs a) es) n o = absurd n
 
 -- ---- by numbers: where a step gives what its call gives
 
-module _ {X : Type 0} (u : Procedure) (sc : Schedules) (adjointed : ℕ → Bool) (f : ℕ → Act → List X) (g : ℕ → Step → List X)
-    (turns : (i : ℕ) (name : List ℕ) (args : Terms) (read : Vars) (n : Mark) → AreDistinctNames args → OverActuals (OwnVar u) NoArray args → g i (record { name = name; given = names_of args; read = read; mark = n }) ≡ f (suc i) (call name args)) where
-  numbered_turns : (i : ℕ) (body : Code) (m : Mark) (s : Step) → reversed_by sc adjointed i body m ≡ Some s → OverCode (OwnVar u) NoArray Any body → IsKernelCode body → g i s ≡ due_code f (suc i) body
+module _ {X : Type 0} (u : Procedure) (sc : Schedules) (adjointed split : ℕ → Bool) (f : ℕ → Act → List X) (g : ℕ → Step → List X)
+    (turns : (i : ℕ) (name : List ℕ) (args : Terms) (read : Vars) (n : Mark) → split (suc i) ≡ false → AreDistinctNames args → OverActuals (OwnVar u) NoArray args → g i (record { name = name; given = names_of args; read = read; mark = n }) ≡ f (suc i) (call name args)) where
+  numbered_turns : (i : ℕ) (body : Code) (m : Mark) (s : Step) → reversed_by sc adjointed i body m ≡ Some s → split (suc i) ≡ false → OverCode (OwnVar u) NoArray Any body → IsKernelCode body → g i s ≡ due_code f (suc i) body
   numbered_turns i body m s e =
-      step_body (λ c s. OverCode (OwnVar u) NoArray Any c → IsKernelCode c → g i s ≡ due_code f (suc i) c) (λ line name args read n o k. turns i name args read n k.0 o.0.1.0 ∙ sym (append-nil (f (suc i) (call name args)))) sc adjointed i body m s e
+      step_body (λ c s. split (suc i) ≡ false → OverCode (OwnVar u) NoArray Any c → IsKernelCode c → g i s ≡ due_code f (suc i) c) (λ line name args read n h o k. turns i name args read n h k.0 o.0.1.0 ∙ sym (append-nil (f (suc i) (call name args)))) sc adjointed i body m s e
 
   mutual
-    numbered_act : (i : ℕ) (a : Act) → OverAct (OwnVar u) NoArray Any a → IsKernelAct a → gathered_act sc adjointed f g i a ≡ due_act f i a
-    numbered_act i (assign x subs e) o k = refl
-    numbered_act i (choose c a b) o k = λ j. f i (choose c a b) ++ (numbered_code (suc i) a o.1.0 k.0 j ++ numbered_code (behind (suc i) a) b o.1.1 k.1 j)
-    numbered_act i (loop x a b c body m) o k = ap (λ l. f i (loop x a b c body m) ++ l) (go (reversed_by sc adjointed i body m) refl (numbered_code (suc i) body o.1.1.1.1.0 k.1))
+    numbered_act : (i : ℕ) (a : Act) → OverAct (OwnVar u) NoArray Any a → IsKernelAct a → MaySplit' sc adjointed split i a → gathered_act sc adjointed f g i a ≡ due_act f i a
+    numbered_act i (assign x subs e) o k may = refl
+    numbered_act i (choose c a b) o k may = λ j. f i (choose c a b) ++ (numbered_code (suc i) a o.1.0 k.0 may.0 j ++ numbered_code (behind (suc i) a) b o.1.1 k.1 may.1 j)
+    numbered_act i (loop x a b c body m) o k may = ap (λ l. f i (loop x a b c body m) ++ l) (go (reversed_by sc adjointed i body m) refl may.0 (numbered_code (suc i) body o.1.1.1.1.0 k.1 may.1))
       where
-        go : (t : Option Step) → reversed_by sc adjointed i body m ≡ t → gathered_list sc adjointed f g (suc i) body ≡ due_code f (suc i) body → found_or t (gathered_list sc adjointed f g (suc i) body) (g i) ≡ due_code f (suc i) body
-        go None e ih = ih
-        go (Some s) e ih = numbered_turns i body m s e o.1.1.1.1.0 k.1
-    numbered_act i (during c body) o k = ap (λ l. f i (during c body) ++ l) (numbered_code (suc i) body o.1 k)
-    numbered_act i (call name args) o k = refl
-    numbered_act i (runtime r) o k = absurd k
+        go : (t : Option Step) → reversed_by sc adjointed i body m ≡ t → ByStep t (Unit {0}) (λ s. split (suc i) ≡ false) → gathered_list sc adjointed f g (suc i) body ≡ due_code f (suc i) body → found_or t (gathered_list sc adjointed f g (suc i) body) (g i) ≡ due_code f (suc i) body
+        go None e alone ih = ih
+        go (Some s) e alone ih = numbered_turns i body m s e alone o.1.1.1.1.0 k.1
+    numbered_act i (during c body) o k may = ap (λ l. f i (during c body) ++ l) (numbered_code (suc i) body o.1 k may)
+    numbered_act i (call name args) o k may = refl
+    numbered_act i (runtime r) o k may = absurd k
 
-    pub numbered_code : (i : ℕ) (c : Code) → OverCode (OwnVar u) NoArray Any c → IsKernelCode c → gathered_list sc adjointed f g i c ≡ due_code f i c
-    numbered_code i stop o k = refl
-    numbered_code i (step line a rest) o k = λ j. numbered_act i a o.0 k.0 j ++ numbered_code (next i a) rest o.1 k.1 j
+    pub numbered_code : (i : ℕ) (c : Code) → OverCode (OwnVar u) NoArray Any c → IsKernelCode c → MaySplit sc adjointed split i c → gathered_list sc adjointed f g i c ≡ due_code f i c
+    numbered_code i stop o k may = refl
+    numbered_code i (step line a rest) o k may = λ j. numbered_act i a o.0 k.0 may.0 j ++ numbered_code (next i a) rest o.1 k.1 may.1 j
 
 -- ---- under names that the unit's variables keep
 
@@ -134,14 +135,14 @@ module _ (u : Procedure) (r : Var → Var) (own_kept : (v : Var) → is_own u v 
   own = is_own u
 
   abbrev kept : ℕ → Act → List Act
-  kept = kept_of p.marks (is_own u)
+  kept = kept_of p (is_own u)
 
   -- what doesn't stay gives nothing
   gone : (i : ℕ) (a : Act) → stays p.marks i a ≡ false → kept i a ≡ []
-  gone i a h = ap (λ b. if b then primal own a else []) h
+  gone i a h = ap (λ b. if b then primal own (own_call p i a) else []) h
 
-  there : (i : ℕ) (a : Act) → stays p.marks i a ≡ true → kept i a ≡ primal own a
-  there i a h = ap (λ b. if b then primal own a else []) h
+  there : (i : ℕ) (a : Act) → stays p.marks i a ≡ true → kept i a ≡ primal own (own_call p i a)
+  there i a h = ap (λ b. if b then primal own (own_call p i a) else []) h
 
   neither : (i : ℕ) → p.marks.kept i ≡ false → p.marks.adjointed i ≡ false → is_emitted p.marks i ≡ false
   neither i h g = λ j. h j || g j
@@ -179,14 +180,15 @@ module _ (u : Procedure) (r : Var → Var) (own_kept : (v : Var) → is_own u v 
   kept_pushes line [] = refl
   kept_pushes line (x ∷ xs) = kept_pushes line xs
 
-  kept_calls : (i line : ℕ) (name : List ℕ) (args : Terms) → is_emitted p.marks i ≡ true → OverAct (OwnVar u) NoArray Any (call name args) →
+  kept_calls : (i line : ℕ) (name : List ℕ) (args : Terms) → p.marks.split i ≡ false → is_emitted p.marks i ≡ true → OverAct (OwnVar u) NoArray Any (call name args) →
       gathered (primal (is_own u)) (seen r (pushes p line (save_group p.marks i (p.callees name) (names_of args)) +++ (code_if (p.marks.adjointed i) (pushes p line (snapshot_group (p.callees name) (names_of args))) +++ code_if (p.marks.kept i) (one line (call name args))))) ≡ kept i (call name args)
-  kept_calls i line name args e o =
+  kept_calls i line name args h e o =
       taken_append r (primal (is_own u)) (pushes p line saves) (code_if (p.marks.adjointed i) (pushes p line members) +++ code_if (p.marks.kept i) (one line (call name args)))
       ∙ ap (λ l. l ++ gathered (primal (is_own u)) (seen r (code_if (p.marks.adjointed i) (pushes p line members) +++ code_if (p.marks.kept i) (one line (call name args))))) (kept_pushes line saves)
       ∙ taken_append r (primal (is_own u)) (code_if (p.marks.adjointed i) (pushes p line members)) (code_if (p.marks.kept i) (one line (call name args)))
       ∙ ap (λ l. l ++ gathered (primal (is_own u)) (seen r (code_if (p.marks.kept i) (one line (call name args))))) (of_members (p.marks.adjointed i))
       ∙ of_call (p.marks.kept i)
+      ∙ sym (ap (λ b. if p.marks.kept i then primal own (if b then call (p.callees name).forth args else call name args) else []) h)
     where
       saves : List (List ℕ)
       saves = save_group p.marks i (p.callees name) (names_of args)
@@ -201,6 +203,10 @@ module _ (u : Procedure) (r : Var → Var) (own_kept : (v : Var) → is_own u v 
       of_call : (b : Bool) → gathered (primal (is_own u)) (seen r (code_if b (one line (call name args)))) ≡ (if b then call name args ∷ [] else [])
       of_call true = ap (λ es. call name es ∷ []) (same_actuals args o.1.0)
       of_call false = refl
+
+  -- a call that is split stays as that of the forward unit
+  kept_splits : (i line : ℕ) (name : List ℕ) (args : Terms) → p.marks.split i ≡ true → p.marks.kept i ≡ true → OverAct (OwnVar u) NoArray Any (call name args) → gathered (primal (is_own u)) (seen r (one line (call (p.callees name).forth args))) ≡ kept i (call name args)
+  kept_splits i line name args h k o = ap (λ es. call (p.callees name).forth es ∷ []) (same_actuals args o.1.0) ∙ sym (λ j. if k j then primal own (if h j then call (p.callees name).forth args else call name args) else [])
 
   kept_loops : (i line : ℕ) (x : List ℕ) (a b c a' c' : Term) (body body' : Code) (m : Mark) → is_emitted p.marks i ≡ true → is_own u (plain x) ≡ true → OverTerm (OwnVar u) NoArray b →
       gathered (primal (is_own u)) (seen r (code_if (p.marks.saved i (plain x)) (one line (runtime (push_word (plain x) none))))) ++ primal (is_own u) (loop (r (plain x)) a' (rename_term r b) c' body' unmarked) ≡ kept i (loop (plain x) a b c body m)
@@ -239,7 +245,7 @@ module _ (u : Procedure) (r : Var → Var) (own_kept : (v : Var) → is_own u v 
   not_own : (o : Role) (k : ℕ) → is_own u (r (helper o k)) ≡ false
   not_own o k = own_same (helper o k)
 
-  pub kept_rows : Rows (primal (is_own u)) (kept_of p.marks (is_own u)) kept_turns r p u
+  pub kept_rows : Rows (primal (is_own u)) (kept_of p (is_own u)) kept_turns r p u
   kept_rows = record {
     set_none = λ o k subs e. ap (λ b. if b then assign (r (helper o k)) subs e ∷ [] else []) (not_own o k);
     push_none = λ o k subs. refl;
@@ -250,6 +256,7 @@ module _ (u : Procedure) (r : Var → Var) (own_kept : (v : Var) → is_own u v 
     chooses = λ i c a b c' d' e o. ap (λ t. choose t stop stop ∷ []) (same_test c o) ∙ sym (there i (choose c a b) e);
     loops = kept_loops;
     whiles = λ i c body body' e o. ap (λ t. during t stop ∷ []) (same_test c o) ∙ sym (there i (during c body) e);
+    splits = kept_splits;
     calls = kept_calls;
     turns = kept_reversed;
   }
@@ -263,7 +270,7 @@ module _ (u : Procedure) (r : Var → Var) (own_kept : (v : Var) → is_own u v 
   due_idle i (during c body) h g = refl
   due_idle i (call name args) h g =
       ap
-      (λ t. if t then map (push_whole p.arrays) (save_group p.marks i (p.callees name) (names_of args)) ++ (if p.marks.adjointed i then map (push_whole p.arrays) (snapshot_group (p.callees name) (names_of args)) else []) else [])
+      (λ t. if t && not (p.marks.split i) then map (push_whole p.arrays) (save_group p.marks i (p.callees name) (names_of args)) ++ (if p.marks.adjointed i then map (push_whole p.arrays) (snapshot_group (p.callees name) (names_of args)) else []) else [])
       (neither i h g)
   due_idle i (runtime c) h g = refl
 
@@ -308,12 +315,18 @@ module _ (u : Procedure) (r : Var → Var) (own_kept : (v : Var) → is_own u v 
       go true = array_pushed x o.0
       go false = word_pushed x none o.0 refl
 
-  due_calls : (i line : ℕ) (name : List ℕ) (args : Terms) → is_emitted p.marks i ≡ true → OverAct (OwnVar u) NoArray Any (call name args) →
+  -- nothing is due for a call that is split
+  due_splits : (i line : ℕ) (name : List ℕ) (args : Terms) → p.marks.split i ≡ true → p.marks.kept i ≡ true → OverAct (OwnVar u) NoArray Any (call name args) → gathered (pushed (is_own u)) (seen r (one line (call (p.callees name).forth args))) ≡ due p i (call name args)
+  due_splits i line name args h k o =
+      sym
+      (λ j. if (k j || p.marks.adjointed i) && not (h j) then map (push_whole p.arrays) (save_group p.marks i (p.callees name) (names_of args)) ++ (if p.marks.adjointed i then map (push_whole p.arrays) (snapshot_group (p.callees name) (names_of args)) else []) else [])
+
+  due_calls : (i line : ℕ) (name : List ℕ) (args : Terms) → p.marks.split i ≡ false → is_emitted p.marks i ≡ true → OverAct (OwnVar u) NoArray Any (call name args) →
       gathered (pushed (is_own u)) (seen r (pushes p line (save_group p.marks i (p.callees name) (names_of args)) +++ (code_if (p.marks.adjointed i) (pushes p line (snapshot_group (p.callees name) (names_of args))) +++ code_if (p.marks.kept i) (one line (call name args))))) ≡ due p i (call name args)
-  due_calls i line name args e o =
+  due_calls i line name args h e o =
       taken_append r (pushed (is_own u)) (pushes p line saves) (code_if (p.marks.adjointed i) (pushes p line members) +++ code_if (p.marks.kept i) (one line (call name args)))
       ∙ (λ j. due_pushes line saves (saved_own u p i name args o.1.0) j ++ rest j)
-      ∙ sym (ap (λ t. if t then map (push_whole p.arrays) saves ++ (if p.marks.adjointed i then map (push_whole p.arrays) members else []) else []) e)
+      ∙ sym (λ j. if e j && not (h j) then map (push_whole p.arrays) saves ++ (if p.marks.adjointed i then map (push_whole p.arrays) members else []) else [])
     where
       saves : List (List ℕ)
       saves = save_group p.marks i (p.callees name) (names_of args)
@@ -369,6 +382,7 @@ module _ (u : Procedure) (r : Var → Var) (own_kept : (v : Var) → is_own u v 
     chooses = λ i c a b c' d' e o. refl;
     loops = due_loops;
     whiles = λ i c body body' e o. refl;
+    splits = due_splits;
     calls = due_calls;
     turns = due_reversed;
   }
@@ -376,7 +390,7 @@ module _ (u : Procedure) (r : Var → Var) (own_kept : (v : Var) → is_own u v 
   -- ---- what is called
 
   abbrev pub called_due : ℕ → Act → List (List ℕ)
-  called_due i a = if p.marks.kept i then called a else []
+  called_due i a = if p.marks.kept i then called (own_call p i a) else []
 
   abbrev pub called_turns : ℕ → Step → List (List ℕ)
   called_turns i s = if p.marks.kept (suc i) then s.name ∷ [] else []
@@ -414,14 +428,18 @@ module _ (u : Procedure) (r : Var → Var) (own_kept : (v : Var) → is_own u v 
   called_pushes line [] = refl
   called_pushes line (x ∷ xs) = called_pushes line xs
 
-  called_calls : (i line : ℕ) (name : List ℕ) (args : Terms) → is_emitted p.marks i ≡ true → OverAct (OwnVar u) NoArray Any (call name args) →
+  called_splits : (i line : ℕ) (name : List ℕ) (args : Terms) → p.marks.split i ≡ true → p.marks.kept i ≡ true → OverAct (OwnVar u) NoArray Any (call name args) → gathered called (seen r (one line (call (p.callees name).forth args))) ≡ called_due i (call name args)
+  called_splits i line name args h k o = sym (λ j. if k j then called (if h j then call (p.callees name).forth args else call name args) else [])
+
+  called_calls : (i line : ℕ) (name : List ℕ) (args : Terms) → p.marks.split i ≡ false → is_emitted p.marks i ≡ true → OverAct (OwnVar u) NoArray Any (call name args) →
       gathered called (seen r (pushes p line (save_group p.marks i (p.callees name) (names_of args)) +++ (code_if (p.marks.adjointed i) (pushes p line (snapshot_group (p.callees name) (names_of args))) +++ code_if (p.marks.kept i) (one line (call name args))))) ≡ called_due i (call name args)
-  called_calls i line name args e o =
+  called_calls i line name args h e o =
       taken_append r called (pushes p line saves) (code_if (p.marks.adjointed i) (pushes p line members) +++ code_if (p.marks.kept i) (one line (call name args)))
       ∙ ap (λ l. l ++ gathered called (seen r (code_if (p.marks.adjointed i) (pushes p line members) +++ code_if (p.marks.kept i) (one line (call name args))))) (called_pushes line saves)
       ∙ taken_append r called (code_if (p.marks.adjointed i) (pushes p line members)) (code_if (p.marks.kept i) (one line (call name args)))
       ∙ ap (λ l. l ++ gathered called (seen r (code_if (p.marks.kept i) (one line (call name args))))) (of_members (p.marks.adjointed i))
       ∙ of_call (p.marks.kept i)
+      ∙ sym (ap (λ b. if p.marks.kept i then called (if b then call (p.callees name).forth args else call name args) else []) h)
     where
       saves : List (List ℕ)
       saves = save_group p.marks i (p.callees name) (names_of args)
@@ -460,17 +478,18 @@ module _ (u : Procedure) (r : Var → Var) (own_kept : (v : Var) → is_own u v 
       of_call true = refl
       of_call false = refl
 
-  pub called_rows : Rows called (λ i a. if p.marks.kept i then called a else []) (λ i s. if p.marks.kept (suc i) then s.name ∷ [] else []) r p u
+  pub called_rows : Rows called (λ i a. if p.marks.kept i then called (own_call p i a) else []) (λ i s. if p.marks.kept (suc i) then s.name ∷ [] else []) r p u
   called_rows = record {
     set_none = λ o k subs e. refl;
     push_none = λ o k subs. refl;
     control_none = λ e. refl;
-    idle = λ i a h g. ap (λ b. if b then called a else []) h;
+    idle = λ i a h g. ap (λ b. if b then called (own_call p i a) else []) h;
     ran = called_ran;
     assigns = called_assigned;
     chooses = λ i c a b c' d' e o. either_none (p.marks.kept i);
     loops = called_loops;
     whiles = λ i c body body' e o. either_none (p.marks.kept i);
+    splits = called_splits;
     calls = called_calls;
     turns = called_reversed;
   }

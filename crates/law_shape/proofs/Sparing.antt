@@ -1,5 +1,5 @@
 -- A forward sweep pushes what is due, and besides it control words at the ends of IFs' parts and few helpers behind loops.
-use Rattle.std.proofs.Common.{◌≡◌, ℕ, suc, Bool, true, false, List, [], ◌∷◌, refl, sym, ap, ◌∙◌, if◌then◌else◌, subst}
+use Rattle.std.proofs.Common.{◌≡◌, ℕ, suc, Bool, true, false, List, [], ◌∷◌, refl, sym, ap, ◌∙◌, if◌then◌else◌}
 use Rattle.std.specs.Prelude.{◌&&◌, ◌-◌, not, nat_lt, Option, Some, None}
 use Rattle.adj_tree.specs.Code.{Role, Var, plain, shadow, helper, first, stride, count, slots, plus, Term, var, bin, Terms, none, more, Test, Mark, unmarked, with_count, count_from, push_word, push_array, push_control, Act, assign, choose, loop, during, call, runtime, Code, stop, step, Procedure}
 use Rattle.def_meaning.specs.Append.{◌+++◌, one}
@@ -10,7 +10,6 @@ use Rattle.def_sweep.specs.Marked.{code_if}
 use Rattle.def_sweep.specs.Plan.{Plan, is_emitted, names_of, actuals_named, found_or, save_group, snapshot_group, step_snapshot, Schedules, Step, reversed_by}
 use Rattle.def_sweep.specs.Rows.{is_empty, pushes, push_own, set_own, literal, told_forward, loop_forward, while_forward}
 use Rattle.def_sweep.specs.Emission.{forward_act_with, forward_with, backward_with}
-use Rattle.def_sweep.proofs.UnsplitRows.{unsplit_forward}
 use Rattle.def_sweep.specs.ReversalCode.{set_slots, push_slots, row_forward}
 use Rattle.law_emitted.proofs.Over.{OverPlace, OverAct, OverCode, Any}
 use Rattle.def_adjoint.specs.Shape.{is_own, is_bare, is_sparing}
@@ -21,7 +20,7 @@ use Rattle.law_shape.proofs.Rows.{saved_own, members_own, step_saved_own, step_m
 both : (a b : Bool) → a ≡ true → b ≡ true → (a && b) ≡ true
 both a b e f = λ j. e j && f j
 
-module _ (u : Procedure) (r : Var → Var) (own_same : (v : Var) → is_own u (r v) ≡ is_own u v) (made : Vars) (unmade : (o : Role) (k : ℕ) → made (r (helper o k)) ≡ false) (sc : Schedules) (p : Plan) (unsplit : (i : ℕ) → p.marks.split i ≡ false) where
+module _ (u : Procedure) (r : Var → Var) (own_same : (v : Var) → is_own u (r v) ≡ is_own u v) (made : Vars) (unmade : (o : Role) (k : ℕ) → made (r (helper o k)) ≡ false) (sc : Schedules) (p : Plan) where
   abbrev sparing : Bool → ℕ → Code → Bool
   sparing part room c = is_sparing (is_own u) made part room c
 
@@ -172,14 +171,23 @@ module _ (u : Procedure) (r : Var → Var) (own_same : (v : Var) → is_own u (r
         let idle = is_empty (backward_with sc p (suc i) (suc d) body) in
         let turn = code_spares (suc i) (suc d) body o.1 in
         guard (is_emitted p.marks i) (while_forward idle (suc d) line c (forward_with sc p (suc i) (suc d) body)) (λ t. while_spares idle line (suc d) c (forward_with sc p (suc i) (suc d) body) turn)
-    act_spares i d line (call name args) o =
-        let saves = save_group p.marks i (p.callees name) (names_of args) in
-        let members = snapshot_group (p.callees name) (names_of args) in
-        subst Spares (sym (unsplit_forward sc p i d line name args (unsplit i)))
-        (guard (is_emitted p.marks i) (pushes p line saves +++ (code_if (p.marks.adjointed i) (pushes p line members) +++ code_if (p.marks.kept i) (one line (call name args)))) (λ t.
-        join (pushes p line saves) (code_if (p.marks.adjointed i) (pushes p line members) +++ code_if (p.marks.kept i) (one line (call name args))) (pushes_spare line saves (saved_own u p i name args o.1.0))
-        (join (code_if (p.marks.adjointed i) (pushes p line members)) (code_if (p.marks.kept i) (one line (call name args)))
-        (guard (p.marks.adjointed i) (pushes p line members) (λ s. pushes_spare line members (members_own u p name args o.1.0))) (guard (p.marks.kept i) (one line (call name args)) (λ s. call_spares line name args)))))
+    act_spares i d line (call name args) o = guard (is_emitted p.marks i) (if p.marks.split i then one line (call (p.callees name).forth args) else row) (λ t. of_split (p.marks.split i))
+      where
+        saves : List (List ℕ)
+        saves = save_group p.marks i (p.callees name) (names_of args)
+
+        members : List (List ℕ)
+        members = snapshot_group (p.callees name) (names_of args)
+
+        row : Code
+        row = pushes p line saves +++ (code_if (p.marks.adjointed i) (pushes p line members) +++ code_if (p.marks.kept i) (one line (call name args)))
+
+        of_split : (s : Bool) → Spares (if s then one line (call (p.callees name).forth args) else row)
+        of_split true = call_spares line (p.callees name).forth args
+        of_split false =
+            join (pushes p line saves) (code_if (p.marks.adjointed i) (pushes p line members) +++ code_if (p.marks.kept i) (one line (call name args))) (pushes_spare line saves (saved_own u p i name args o.1.0))
+            (join (code_if (p.marks.adjointed i) (pushes p line members)) (code_if (p.marks.kept i) (one line (call name args)))
+            (guard (p.marks.adjointed i) (pushes p line members) (λ s. pushes_spare line members (members_own u p name args o.1.0))) (guard (p.marks.kept i) (one line (call name args)) (λ s. call_spares line name args)))
     act_spares i d line (runtime c) o = nothing
 
     code_spares : (i d : ℕ) (c : Code) → OverCode (OwnVar u) NoArray Any c → Spares (forward_with sc p i d c)

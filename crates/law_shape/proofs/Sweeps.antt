@@ -1,5 +1,5 @@
 -- The forward sweep assigns no shadow and has pushes alone of the runtime's calls, and the backward sweep assigns the unit's variables only as those of DOs.
-use Rattle.std.proofs.Common.{◌≡◌, ℕ, suc, Bool, true, false, List, [], ◌∷◌, ◌++◌, refl, ap, ◌∙◌, if◌then◌else◌, sym, subst}
+use Rattle.std.proofs.Common.{◌≡◌, ℕ, suc, Bool, true, false, List, [], ◌∷◌, ◌++◌, refl, ap, ◌∙◌, if◌then◌else◌}
 use Rattle.std.specs.Prelude.{◌||◌, ◌&&◌, not, Option, Some, None}
 use Rattle.std.specs.List.{list_any, list_all}
 use Rattle.std.proofs.lemmas.Grind.{flat_map-append}
@@ -11,11 +11,10 @@ use Rattle.def_sweep.specs.Marks.{active_at}
 use Rattle.def_sweep.specs.Marked.{code_if}
 use Rattle.def_names.proofs.Variables.{or_left, or_right}
 use Rattle.def_meaning.proofs.Variables.{var_refl}
-use Rattle.def_sweep.specs.Plan.{Plan, is_emitted, names_of, actuals_named, found_or, save_group, snapshot_group, step_snapshot, Schedules, Step, reversed_by}
+use Rattle.def_sweep.specs.Plan.{Callee, Plan, is_emitted, names_of, actuals_named, found_or, save_group, snapshot_group, step_snapshot, Schedules, Step, reversed_by}
 use Rattle.def_sweep.specs.AdjointOf.{adjoint_where}
-use Rattle.def_sweep.specs.Rows.{is_empty, push, pop, pushes, pops, literal, told_forward, told_backward, loop_forward, loop_backward, while_forward, while_backward, push_own, pop_own, set_own, reset, resets, adjoint_call}
+use Rattle.def_sweep.specs.Rows.{is_empty, push, pop, pushes, pops, literal, told_forward, told_backward, loop_forward, loop_backward, while_forward, while_backward, push_own, pop_own, set_own, reset, resets, with_shadows, adjoint_call}
 use Rattle.def_sweep.specs.Emission.{forward_act_with, forward_with, backward_act_with, backward_with}
-use Rattle.def_sweep.proofs.UnsplitRows.{unsplit_forward, unsplit_backward}
 use Rattle.def_sweep.specs.ReversalCode.{at_turn, arm, advance, arms, reversal, slots_of, set_slots, push_slots, pop_slots, row_forward, row_backward}
 use Rattle.law_emitted.proofs.Over.{OverAct, OverCode, Any}
 use Rattle.law_emitted.proofs.Assigned.{AreMaking, making_adjoint}
@@ -27,7 +26,7 @@ use Rattle.law_shape.proofs.Through.{Through, seen_through, guarded_through, Pla
 
 -- ---- forward
 
-module _ (r : Var → Var) (made : Vars) (plain_unmade : (x : List ℕ) → made (r (plain x)) ≡ false) (helper_unmade : (o : Role) (k : ℕ) → made (r (helper o k)) ≡ false) (sc : Schedules) (p : Plan) (unsplit : (i : ℕ) → p.marks.split i ≡ false) where
+module _ (r : Var → Var) (made : Vars) (plain_unmade : (x : List ℕ) → made (r (plain x)) ≡ false) (helper_unmade : (o : Role) (k : ℕ) → made (r (helper o k)) ≡ false) (sc : Schedules) (p : Plan) where
   -- it assigns no shadow, and calls of the runtime pushes alone
   abbrev Clean : Act → Type 0
   Clean a = (list_any made (assigned a) ≡ false) × (list_all is_push (ran a) ≡ true)
@@ -138,13 +137,22 @@ module _ (r : Var → Var) (made : Vars) (plain_unmade : (x : List ℕ) → made
     clean_act i d line (during c body) =
         let idle = is_empty (backward_with sc p (suc i) (suc d) body) in
         clean_if (is_emitted p.marks i) (while_forward idle (suc d) line c (forward_with sc p (suc i) (suc d) body)) (clean_while idle (suc d) line c (forward_with sc p (suc i) (suc d) body) (clean_code (suc i) (suc d) body))
-    clean_act i d line (call name args) =
-        let saves = save_group p.marks i (p.callees name) (names_of args) in
-        let members = snapshot_group (p.callees name) (names_of args) in
-        subst IsClean (sym (unsplit_forward sc p i d line name args (unsplit i)))
-        (clean_if (is_emitted p.marks i) (pushes p line saves +++ (code_if (p.marks.adjointed i) (pushes p line members) +++ code_if (p.marks.kept i) (one line (call name args))))
-        (clean_join (pushes p line saves) (code_if (p.marks.adjointed i) (pushes p line members) +++ code_if (p.marks.kept i) (one line (call name args))) (clean_pushes line saves)
-        (clean_join (code_if (p.marks.adjointed i) (pushes p line members)) (code_if (p.marks.kept i) (one line (call name args))) (clean_if (p.marks.adjointed i) (pushes p line members) (clean_pushes line members)) (clean_if (p.marks.kept i) (one line (call name args)) ((refl, refl), tt)))))
+    clean_act i d line (call name args) = clean_if (is_emitted p.marks i) (if p.marks.split i then one line (call (p.callees name).forth args) else row) (of_split (p.marks.split i))
+      where
+        saves : List (List ℕ)
+        saves = save_group p.marks i (p.callees name) (names_of args)
+
+        members : List (List ℕ)
+        members = snapshot_group (p.callees name) (names_of args)
+
+        row : Code
+        row = pushes p line saves +++ (code_if (p.marks.adjointed i) (pushes p line members) +++ code_if (p.marks.kept i) (one line (call name args)))
+
+        of_split : (s : Bool) → IsClean (if s then one line (call (p.callees name).forth args) else row)
+        of_split true = ((refl, refl), tt)
+        of_split false =
+            clean_join (pushes p line saves) (code_if (p.marks.adjointed i) (pushes p line members) +++ code_if (p.marks.kept i) (one line (call name args))) (clean_pushes line saves)
+            (clean_join (code_if (p.marks.adjointed i) (pushes p line members)) (code_if (p.marks.kept i) (one line (call name args))) (clean_if (p.marks.adjointed i) (pushes p line members) (clean_pushes line members)) (clean_if (p.marks.kept i) (one line (call name args)) ((refl, refl), tt)))
     clean_act i d line (runtime c) = tt
 
     clean_code : (i d : ℕ) (c : Code) → IsClean (forward_with sc p i d c)
@@ -205,7 +213,7 @@ module _ (counts : Vars) where
 
 -- ---- backward
 
-module _ (u : Procedure) (r : Var → Var) (own_kept : (v : Var) → is_own u v ≡ true → r v ≡ v) (own_same : (v : Var) → is_own u (r v) ≡ is_own u v) (counts : Vars) (sc : Schedules) (p : Plan) (unsplit : (i : ℕ) → p.marks.split i ≡ false) where
+module _ (u : Procedure) (r : Var → Var) (own_kept : (v : Var) → is_own u v ≡ true → r v ≡ v) (own_same : (v : Var) → is_own u (r v) ≡ is_own u v) (counts : Vars) (sc : Schedules) (p : Plan) where
   -- a variable that isn't the unit's, or is that of a DO and stands in the body of a loop
   abbrev restored : Bool → Var → Bool
   restored z v = not (is_own u v) || (z && counts v)
@@ -359,15 +367,26 @@ module _ (u : Procedure) (r : Var → Var) (own_kept : (v : Var) → is_own u v 
         let idle = is_empty (backward_with sc p (suc i) (suc d) body) in
         let inside_it = code_turns true (suc i) (suc d) body o.1 l in
         turning_if z (is_emitted p.marks i) (while_backward idle (suc d) line (backward_with sc p (suc i) (suc d) body)) (λ e. while_turns z idle (suc d) line (backward_with sc p (suc i) (suc d) body) inside_it)
-    act_turns z i d line (call name args) o l =
-        let g = p.callees name in
-        let saves = save_group p.marks i g (names_of args) in
-        let members = snapshot_group g (names_of args) in
-        subst (IsTurning z) (sym (unsplit_backward sc p i d line name args (unsplit i)))
-        (turning_if z (is_emitted p.marks i) (code_if (p.marks.adjointed i) (pops p line members +++ one line (adjoint_call g (names_of args))) +++ pops p line saves) (λ e.
-        turning_join z (code_if (p.marks.adjointed i) (pops p line members +++ one line (adjoint_call g (names_of args)))) (pops p line saves)
-        (turning_if z (p.marks.adjointed i) (pops p line members +++ one line (adjoint_call g (names_of args))) (λ t. turning_join z (pops p line members) (one line (adjoint_call g (names_of args))) (pops_turn z line members) (refl, tt)))
-        (pops_turn z line saves)))
+    act_turns z i d line (call name args) o l = turning_if z (is_emitted p.marks i) (if p.marks.split i then one line (call g.back (with_shadows g.shadowed g.dummies (names_of args))) else row) (λ e. of_split (p.marks.split i))
+      where
+        g : Callee
+        g = p.callees name
+
+        saves : List (List ℕ)
+        saves = save_group p.marks i g (names_of args)
+
+        members : List (List ℕ)
+        members = snapshot_group g (names_of args)
+
+        row : Code
+        row = code_if (p.marks.adjointed i) (pops p line members +++ one line (adjoint_call g (names_of args))) +++ pops p line saves
+
+        of_split : (s : Bool) → IsTurning z (if s then one line (call g.back (with_shadows g.shadowed g.dummies (names_of args))) else row)
+        of_split true = (refl, tt)
+        of_split false =
+            turning_join z (code_if (p.marks.adjointed i) (pops p line members +++ one line (adjoint_call g (names_of args)))) (pops p line saves)
+            (turning_if z (p.marks.adjointed i) (pops p line members +++ one line (adjoint_call g (names_of args))) (λ t. turning_join z (pops p line members) (one line (adjoint_call g (names_of args))) (pops_turn z line members) (refl, tt)))
+            (pops_turn z line saves)
     act_turns z i d line (runtime t) o l = tt
 
     code_turns : (z : Bool) (i d : ℕ) (c : Code) → OverCode (OwnVar u) NoArray Any c → LoopsIn counts c → IsTurning z (backward_with sc p i d c)

@@ -36,20 +36,18 @@ unit_shaped = record {
   forth = all_at 0 (pushes X ∷ squared ∷ []) stop;
   back = unlined_code turned_back;
   body = refl;
-  keeps = refl;
-  spares = refl;
-  pushes_alone = refl;
-  saves = refl;
-  sparing = refl;
-  reverses = refl;
-  assigns = refl;
+  forward = record { keeps = refl; spares = refl; pushes_alone = refl; saves = refl; sparing = refl };
+  backward = record { reverses = refl; assigns = refl };
 }
 
 pub emitted_shaped : HasShape false sparing (fourth_power ∷ []) fourth_power (true ∷ []) (true ∷ []) emitted
 emitted_shaped = record {
   made = λ u. unlined_procedure (adjoint_with (all_at 3 (pushes X ∷ squared ∷ []) turned_back));
+  forth = λ u. u;
+  back = λ u. u;
   units = refl;
   adjoints = λ u f a. go u (name_eq (codes "P") u.name) f;
+  pairs = λ u f a. absurd (let z : false ≡ true = a in cc);
 }
   where
     go : (u : Procedure) (b : Bool) → (if b then Some fourth_power else find_unit [] u.name) ≡ Some u → IsAdjointUnit false sparing (fourth_power ∷ []) fourth_power (true ∷ []) (true ∷ []) u (unlined_procedure (adjoint_with (all_at 3 (pushes X ∷ squared ∷ []) turned_back)))
@@ -85,7 +83,7 @@ module _ (body : Code) (called_none : is_called (unlined_procedure (adjoint_with
   not_shaped h x =
       let s = only_unit x in
       let cut : unlined_code body ≡ s.forth +++ s.back = s.body ∙ ap (λ c. s.forth +++ c) (append-stop s.back) in
-      let yes : pushes_so s.forth s.back ≡ true = λ j. s.sparing j && ((length (s.saves j) == 1) && is_none (s.reverses j)) in
+      let yes : pushes_so s.forth s.back ≡ true = λ j. s.forward.sparing j && ((length (s.forward.saves j) == 1) && is_none (s.backward.reverses j)) in
       let no : pushes_so s.forth s.back ≡ false = cut_not pushes_so stop s.forth s.back (ap (none_cut pushes_so stop) (sym cut) ∙ h) in
       let z : true ≡ false = sym yes ∙ no in
       cc

@@ -5,9 +5,10 @@ use Rattle.adj_tree.specs.Lines.{unlined}
 use Rattle.def_names.specs.Fault.{Rules}
 use Rattle.def_names.specs.Numbers.{Vars}
 use Rattle.def_sweep.specs.Declared.{unit_at}
-use Rattle.def_sweep.specs.Marking.{ProgramMarks, SplitsNothing, full_marks}
+use Rattle.def_sweep.specs.Marking.{ProgramMarks, full_marks}
 use Rattle.def_sweep.specs.Program.{emitted_program_with}
 use Rattle.law_emitted.specs.Checked.{IsChecked}
+use Rattle.law_emitted.specs.Splits.{AllMaySplit}
 use Rattle.def_flow.specs.Problem.{Problem}
 use Rattle.def_flow.specs.Activity.{Activity}
 use Rattle.def_flow.specs.Live.{Liveness}
@@ -16,11 +17,11 @@ use Rattle.def_planned.specs.ProgramFacts.{program_facts}
 use Rattle.def_adjoint.specs.Shape.{HasShape}
 use Rattle.law_shape.specs.Closed.{AreClosed}
 
--- what is emitted for a checked program by closed marks that split no call has its shape, whether marked loops are reversed by schedules or are
--- loops as others, and so has what differs from it in line numbers alone (the shape has no forward and no backward units yet)
+-- what is emitted for a checked program by closed marks that split what may be split has its shape, whether marked loops are reversed by schedules or are
+-- loops as others, and so has what differs from it in line numbers alone
 abbrev pub EmittedHasShape : Type 0
 EmittedHasShape =
-    (schedules : Bool) (rules : Rules) (ps : List Procedure) → IsChecked rules ps → (m : ProgramMarks) → SplitsNothing m → (head : ℕ) (vars outvars : List Bool) (u : Procedure) → unit_at head ps ≡ u ∷ [] → AreClosed m ps u →
+    (schedules : Bool) (rules : Rules) (ps : List Procedure) → IsChecked rules ps → (m : ProgramMarks) → AllMaySplit schedules m ps ps → (head : ℕ) (vars outvars : List Bool) (u : Procedure) → unit_at head ps ≡ u ∷ [] → AreClosed m ps u →
     (qs : List Procedure) → unlined (emitted_program_with schedules m ps head vars outvars) ≡ unlined qs → HasShape schedules m ps u vars outvars qs
 
 -- full marks are closed

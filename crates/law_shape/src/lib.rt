@@ -1,6 +1,6 @@
 //! What an emitted program looks like: definitions and laws, no code.
 //!
-//! `specs/Shape` says it of the text alone: which units a program has, and what each adjoint unit keeps, saves, pushes and sets.
+//! `specs/Shape` says it of the text alone: which units a program has, and what each adjoint, forward and backward unit keeps, saves, pushes and sets.
 //! `specs/Closed` says by which marks what is emitted looks so. The crate stands on what is emitted (`def_sweep`) for checked programs
 //! (`law_emitted`) and on the marks of exact analyses (`law_analysed`). The layer above uses `accepted_law`. `specs/Worked` and `specs/Reversed`
 //! are examples.
@@ -15,7 +15,7 @@ ghost use Rattle.law_shape.specs.Reversed.{counting_itself, dropped, dropping, n
 ghost use Rattle.def_adjoint.specs.Shape.{HasShape};
 ghost use Rattle.law_shape.specs.Worked.{emitted, fourth_power, keeping_all, pushing_helpers, pushing_more, sparing, twice_forward};
 
-/// What is emitted for a checked program in kernel form by closed marks that split no call has its shape, whether marked loops are reversed by schedules or not.
+/// What is emitted for a checked program in kernel form by closed marks that split what may be split has its shape, whether marked loops are reversed by schedules or not.
 pub fn shape_law()
     ensures { EmittedHasShape }
 {}

@@ -5,7 +5,8 @@ use Rattle.adj_tree.specs.Code.{shadow, plus, minus, times, quot, modulo, greate
 use Rattle.def_meaning.specs.Append.{◌+++◌, one}
 use Rattle.def_names.specs.Numbers.{Vars}
 use Rattle.def_sweep.specs.Marked.{code_if, own_code, count_of}
-use Rattle.def_sweep.specs.AdjointOf.{is_active_where, has_own_where, temps_in_where, shrunk_where, temps_where}
+use Rattle.def_sweep.specs.Occurrences.{is_active_where}
+use Rattle.def_sweep.specs.AdjointOf.{has_own_where, temps_in_where, shrunk_where, temps_where}
 use Rattle.def_tangent.specs.TangentOf.{tangent_term, own_part, parts_where, before_assignment}
 use Rattle.law_tangent.proofs.Straight.{AreAside, aside_append}
 

@@ -12,7 +12,8 @@ use Rattle.def_names.specs.Numbers.{Vars}
 use Rattle.def_sweep.specs.Marked.{code_if}
 use Rattle.law_sweep.specs.Pairs.{Words, SamePlain, on_words}
 use Rattle.law_sweep.specs.Scenes.{Course, scene}
-use Rattle.def_sweep.specs.AdjointOf.{is_active_where, temps_where}
+use Rattle.def_sweep.specs.Occurrences.{is_active_where}
+use Rattle.def_sweep.specs.AdjointOf.{temps_where}
 use Rattle.law_sweep.proofs.Terms.{cell_in, tan, IsDefined}
 use Rattle.law_sweep.proofs.TermUses.{IsOver, AreText, over_treated, defined_same, IsUsable}
 use Rattle.law_sweep.proofs.TempsOf.{temps_made}

@@ -22,7 +22,7 @@ use Rattle.law_sweep.specs.Pairs.{Key, key_eq, Words, SamePlain, with_tangents, 
 use Rattle.law_sweep.specs.Scenes.{Course}
 use Rattle.def_names.proofs.Variables.{not_true, and_true}
 use Rattle.law_sweep.proofs.KeyVariables.{key_same}
-use Rattle.def_sweep.specs.AdjointOf.{occurring}
+use Rattle.def_sweep.specs.Occurrences.{occurring}
 use Rattle.law_sweep.specs.Passing.{plainly}
 use Rattle.law_sweep.specs.Kernel.{AssignmentFits}
 use Rattle.law_sweep.proofs.Terms.{num, nums, cell_or, cell_in, tan, HasCell, IsDefined, defined_of, all_defined_of, value_words, values_words, value_duals}

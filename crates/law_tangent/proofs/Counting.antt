@@ -6,7 +6,8 @@ use Rattle.adj_tree.specs.Size.{term_nodes, terms_nodes}
 use Rattle.def_meaning.specs.Append.{◌+++◌, one}
 use Rattle.def_names.specs.Numbers.{Vars}
 use Rattle.def_sweep.specs.Marked.{code_if, count_of, own_code}
-use Rattle.def_sweep.specs.AdjointOf.{is_active_where, has_own_where, temps_in_where, shrunk_where, temps_where}
+use Rattle.def_sweep.specs.Occurrences.{is_active_where}
+use Rattle.def_sweep.specs.AdjointOf.{has_own_where, temps_in_where, shrunk_where, temps_where}
 use Rattle.def_tangent.specs.TangentOf.{tangent_term, own_part, parts_where, before_assignment}
 use Rattle.def_tangent.specs.Forward.{Plan}
 use Rattle.law_tangent.specs.Counts.{size, IsFew, AreFew}

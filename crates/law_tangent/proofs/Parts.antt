@@ -19,7 +19,8 @@ use Rattle.def_sweep.specs.Marked.{count_of, own_or, work_var}
 use Rattle.law_sweep.specs.Pairs.{Words, SamePlain, on_words}
 use Rattle.law_sweep.specs.Scenes.{Course, scene}
 use Rattle.law_sweep.proofs.Steps.{assigns}
-use Rattle.def_sweep.specs.AdjointOf.{is_active_where, has_own_where, temps_in_where}
+use Rattle.def_sweep.specs.Occurrences.{is_active_where}
+use Rattle.def_sweep.specs.AdjointOf.{has_own_where, temps_in_where}
 use Rattle.law_sweep.proofs.Terms.{num, nums, tan, cell_or, IsDefined, value_words, values_words}
 use Rattle.law_sweep.proofs.TermUses.{IsText, IsOver, over_text, over_treated, num_text, nums_text, defined_text, all_defined_text}
 use Rattle.law_sweep.proofs.TempsOf.{HasTemps, OwnHolds, temps_same, value_own}

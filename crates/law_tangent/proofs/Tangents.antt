@@ -10,7 +10,7 @@ use Rattle.def_names.specs.Numbers.{Vars}
 use Rattle.law_sweep.specs.Pairs.{Words, tangent_at}
 use Rattle.def_names.proofs.Variables.{or_false}
 use Rattle.def_meaning.proofs.Variables.{var_same}
-use Rattle.def_sweep.specs.AdjointOf.{is_active_where}
+use Rattle.def_sweep.specs.Occurrences.{is_active_where}
 use Rattle.law_sweep.specs.Kernel.{AreTreated}
 use Rattle.law_sweep.proofs.Terms.{num, nums, tan, cell_or, IsDefined}
 use Rattle.law_sweep.proofs.TermTangents.{tan_none}

@@ -7,7 +7,7 @@ use Rattle.def_meaning.specs.Read.{reads_term, reads_test}
 use Rattle.def_names.specs.Numbers.{Vars, next, behind}
 use Rattle.def_names.specs.Numbering.{point_before, point_after}
 use Rattle.def_sweep.specs.Facts.{In, Within, without, whole}
-use Rattle.def_sweep.specs.AdjointOf.{occurring}
+use Rattle.def_sweep.specs.Occurrences.{occurring}
 use Rattle.def_sweep.specs.Plan.{IsActual, actuals_named}
 use Rattle.def_sweep.specs.Callees.{nothing}
 use Rattle.law_sweep.specs.Laws.{just, point_inside, last_point}
