@@ -1,0 +1,20 @@
+-- the lemmas of the crate
+pub mod Stepped
+pub mod Empty
+pub mod Finding
+pub mod Tabled
+pub mod Owned
+pub mod Blocked
+pub mod Grouped
+pub mod Passed
+pub mod Rounds
+pub mod Used
+pub mod Searched
+pub mod Flagged
+pub mod Numbered
+pub mod Itemed
+pub mod Gained
+pub mod Spelled
+pub mod Made
+pub mod Laid
+pub mod Walked
