@@ -3,12 +3,13 @@ use Rattle.std.proofs.Common.{◌≡◌, ◌≢◌, ℕ, Bool, true, false, cond
 use Rattle.std.proofs.lemmas.Bool.{ne_eqb, eq-eqb, or_parts}
 use Rattle.std.proofs.lemmas.List.{append_assoc, append-nil}
 use Rattle.std.specs.Prelude.{◌==◌, not}
-use Rattle.adj_tree.specs.Code.{Test, Mark, Act, Code, choose, during, stop, step, Procedure}
+use Rattle.adj_tree.specs.Code.{Test, Mark, Act, Code, choose, during, stop, step}
+use Rattle.adj_tree.specs.Common.{Shared}
 use Rattle.adj_tree.specs.Listed.{code_listed}
 use Rattle.def_text.specs.Statement.{Range}
 use Rattle.def_text.specs.Block as blocks
 use Rattle.def_text.specs.Block.{is_open, innermost, loop_of, ReadsBody, ReadsAct, ReadsElse}
-use Rattle.def_text.specs.Form.{Form, subroutine, implicit_none, integers, simple, logical, opens_do, opens_while, end_do, go_on, opens_if, otherwise, otherwise_if, end_if, leaves, ends, Statement, at}
+use Rattle.def_text.specs.Form.{Form, subroutine, implicit_none, integers, common, simple, logical, opens_do, opens_while, end_do, go_on, opens_if, otherwise, otherwise_if, end_if, leaves, ends, Statement, at}
 use Rattle.def_text.specs.declared.stated.Kind.{Kind}
 use Rattle.def_text.specs.declared.stated.Kind.TheVariants.{Do, BlockIf, LogicalIf, Assign, Continue, EndIf, EndDo, Else, ElseIf, DoWhile}
 use Rattle.adj_parse.specs.declared.phase.Phase.TheVariants.{Acting}
@@ -46,7 +47,7 @@ innermost_none is_such (b ∷ bs) h = (or_parts (is_such b.part) (some_is is_suc
 abbrev pub block : ℕ → Acts → Part → Block
 block n before part = record { line = n; before = before; part = part }
 
-module _ (done : List Procedure) (unit : Procedure) where
+module _ (done : List Shared) (unit : Shared) where
   -- in the open blocks of a unit
   abbrev pub inside : Nest → Units
   inside nest = record { done = done; current = Some (record { unit = unit; phase = Acting; nest = nest }) }
@@ -73,6 +74,7 @@ module _ (done : List Procedure) (unit : Procedure) where
   steps (subroutine y ds) nest n l ts x h g = absurd cc
   steps implicit_none nest n l ts x h g = absurd cc
   steps (integers is) nest n l ts x h g = absurd cc
+  steps (common b is) nest n l ts x h g = absurd cc
   steps leaves nest n l ts x h g = absurd cc
   steps ends nest n l ts x h g = absurd cc
 

@@ -7,7 +7,7 @@ use Rattle.adj_tree.specs.Listed.{code_onto, code_listed}
 use Rattle.def_text.specs.Statement.{Range}
 use Rattle.def_text.specs.Block as blocks
 use Rattle.def_text.specs.Block.{is_open, innermost, loop_of, ReadsBody, ReadsAct, ReadsElse}
-use Rattle.def_text.specs.Form.{Form, subroutine, implicit_none, integers, simple, logical, opens_do, opens_while, end_do, go_on, opens_if, otherwise, otherwise_if, end_if, leaves, ends, Statement, at}
+use Rattle.def_text.specs.Form.{Form, subroutine, implicit_none, integers, common, simple, logical, opens_do, opens_while, end_do, go_on, opens_if, otherwise, otherwise_if, end_if, leaves, ends, Statement, at}
 use Rattle.def_text.specs.declared.stated.Kind.{Kind}
 use Rattle.def_text.specs.declared.stated.Kind.TheVariants.{Do, BlockIf, LogicalIf, Assign, Continue, EndIf, EndDo, Else, ElseIf, DoWhile}
 use Rattle.adj_parse.specs.Blocks.{Acts, Part, of_loop, of_while, of_if, of_else, of_chain, Block, close_while, Nest, acted, is_chain, is_labelled}
@@ -176,5 +176,6 @@ module _ (total : List Statement) where
   steps (subroutine w ds) bs acts n l rest x y z h = absurd cc
   steps implicit_none bs acts n l rest x y z h = absurd cc
   steps (integers is) bs acts n l rest x y z h = absurd cc
+  steps (common b is) bs acts n l rest x y z h = absurd cc
   steps leaves bs acts n l rest x y z h = absurd cc
   steps ends bs acts n l rest x y z h = absurd cc

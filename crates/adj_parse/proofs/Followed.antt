@@ -3,7 +3,8 @@ use Rattle.std.proofs.Common.{◌≡◌, ℕ, Bool, true, false, cond, List, [],
 use Rattle.std.proofs.Math.Dec.{eqb-suc-zero}
 use Rattle.std.proofs.lemmas.Bool.{or_parts}
 use Rattle.std.specs.Prelude.{◌==◌, ◌&&◌, ◌||◌, not, is_none, nat_le, length, unwrap_or}
-use Rattle.adj_tree.specs.Code.{Mark, unmarked, with_count, count_from, Procedure}
+use Rattle.adj_tree.specs.Code.{Mark, unmarked, with_count, count_from}
+use Rattle.adj_tree.specs.Common.{Shared}
 use Rattle.adj_tree.specs.View.{mark_of}
 use Rattle.adj_tree.specs.declared.fault.Refusal.{Refusal}
 use Rattle.adj_parse_expression.specs.declared.flaw.Flaw.{Flaw}
@@ -34,6 +35,7 @@ same_place : {mark : Mark} {kind : Kind} {lexemes : List Lexeme} {f : Form} → 
 same_place (forms.ReadsForm.heading d) l c = refl
 same_place forms.ReadsForm.implicit l c = refl
 same_place (forms.ReadsForm.declaration d) l c = refl
+same_place (forms.ReadsForm.shared d) l c = refl
 same_place (forms.ReadsForm.assigned d) l c = refl
 same_place (forms.ReadsForm.calls d) l c = calls_place l c
   where
@@ -143,6 +145,7 @@ led_form : {mark : Mark} {kind : Kind} {ws : List Lexeme} {f : Form} → ReadsFo
 led_form (forms.ReadsForm.heading d) = refl
 led_form forms.ReadsForm.implicit = refl
 led_form (forms.ReadsForm.declaration d) = refl
+led_form (forms.ReadsForm.shared d) = refl
 led_form (forms.ReadsForm.assigned d) = refl
 led_form (forms.ReadsForm.calls d) = refl
 led_form (forms.ReadsForm.guarded d e) = refl
@@ -162,6 +165,7 @@ same_end : {mark : Mark} {kind : Kind} {ws : List Lexeme} {f : Form} → ReadsFo
 same_end (forms.ReadsForm.heading d) = refl
 same_end forms.ReadsForm.implicit = refl
 same_end (forms.ReadsForm.declaration d) = refl
+same_end (forms.ReadsForm.shared d) = refl
 same_end (forms.ReadsForm.assigned d) = refl
 same_end (forms.ReadsForm.calls d) = refl
 same_end (forms.ReadsForm.guarded d e) = refl
@@ -177,23 +181,23 @@ same_end forms.ReadsForm.returned = refl
 same_end forms.ReadsForm.ended = refl
 
 -- behind END no unit is open
-end_closes : (done : List Procedure) (current : Option Current) (n l : ℕ) (f : Form) → is_end (kind_of f) ≡ true → (followed done current n l f).current ≡ None
+end_closes : (done : List Shared) (current : Option Current) (n l : ℕ) (f : Form) → is_end (kind_of f) ≡ true → (followed done current n l f).current ≡ None
 end_closes done None n l ends h = refl
 end_closes done (Some c) n l ends h = refl
 end_closes done current n l f h = absurd cc
 
 -- a statement behind which no unit is open, and which stands where it may, is END
-closes_end : (done : List Procedure) (current : Option Current) (n l : ℕ) (f : Form) → stands (kind_of f) l current ≡ true → (followed done current n l f).current ≡ None → is_end (kind_of f) ≡ true
+closes_end : (done : List Shared) (current : Option Current) (n l : ℕ) (f : Form) → stands (kind_of f) l current ≡ true → (followed done current n l f).current ≡ None → is_end (kind_of f) ≡ true
 closes_end done (Some c) n l ends p h = refl
 closes_end done (Some c) n l f p h = absurd cc
 closes_end done None n l (subroutine x dummies) p h = absurd cc
 closes_end done None n l f p h = absurd cc
 
-units_none : (done : List Procedure) (current : Option Current) (ps : List Procedure) → units_of done current ≡ Some ps → current ≡ None
+units_none : (done : List Shared) (current : Option Current) (ps : List Shared) → units_of done current ≡ Some ps → current ≡ None
 units_none done None ps h = refl
 units_none done (Some c) ps h = absurd cc
 
-pub units_done : (done : List Procedure) (current : Option Current) (ps : List Procedure) → units_of done current ≡ Some ps → done ≡ ps
+pub units_done : (done : List Shared) (current : Option Current) (ps : List Shared) → units_of done current ≡ Some ps → done ≡ ps
 units_done done None ps h = cc
 units_done done (Some c) ps h = absurd cc
 
@@ -220,7 +224,7 @@ module _ (mode : Mode) where
   Closed (t ∷ ts) s = Unit {0}
 
   -- what the chain answers, the machine answers for what the statements say
-  pub chain_runs : (ts : List Stated) (s : State) (ps : List Procedure) → Closed ts s → trees_from mode s ts ≡ Ok ps → (ss : List Statement) × AllSay ts ss × (run s.units ss ≡ Some ps)
+  pub chain_runs : (ts : List Stated) (s : State) (ps : List Shared) → Closed ts s → trees_from mode s ts ≡ Ok ps → (ss : List Statement) × AllSay ts ss × (run s.units ss ≡ Some ps)
   unfolding trees_from follow run
   chain_runs [] s ps closed h = let same : s.units.done ≡ ps = cc in ([], none, rw closed (ap Some same))
   chain_runs (t ∷ ts) s ps closed h =
@@ -239,7 +243,7 @@ module _ (mode : Mode) where
       closes {f} [] d e = end_closes s.units.done s.units.current t.line t.label f (sym (same_end d) ∙ sure (is_end t.kind) e)
       closes (u ∷ us) d e = tt
 
-  pub chain_comes : {ts : List Stated} {ss : List Statement} → ReadsAll ts ss → (s : State) (ps : List Procedure) → run s.units ss ≡ Some ps → Comes ps (trees_from mode s ts)
+  pub chain_comes : {ts : List Stated} {ss : List Statement} → ReadsAll ts ss → (s : State) (ps : List Shared) → run s.units ss ≡ Some ps → Comes ps (trees_from mode s ts)
   unfolding trees_from follow run
   chain_comes texts.ReadsAll.none s ps h = inl (ap Ok (units_done s.units.done s.units.current ps h))
   chain_comes (texts.ReadsAll.more {s = t} {ss = ts} {f = f} {ts = ss} d rest) s ps h =

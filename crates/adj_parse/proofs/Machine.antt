@@ -3,13 +3,14 @@ use Rattle.std.proofs.Common.{◌≡◌, ℕ, Bool, true, false, cond, eqb, List
 use Rattle.std.specs.Prelude.{◌==◌, ◌&&◌, ◌||◌, not}
 use Rattle.std.specs.List.{list_any}
 use Rattle.std.proofs.lemmas.Bool.{ne_eqb, eqb-false}
-use Rattle.adj_tree.specs.Code.{Test, Mark, Act, Code, stop, step, Procedure}
+use Rattle.adj_tree.specs.Code.{Test, Mark, Act, Code, stop, step}
+use Rattle.adj_tree.specs.Common.{Shared}
 use Rattle.adj_tree.specs.Listed.{code_onto, code_listed}
 use Rattle.def_text.specs.Statement.{Range}
 use Rattle.def_text.specs.Block.{is_open, innermost}
-use Rattle.def_text.specs.Form.{Form, subroutine, implicit_none, integers, simple, logical, opens_do, opens_while, end_do, go_on, opens_if, otherwise, otherwise_if, end_if, leaves, ends, Statement, at}
+use Rattle.def_text.specs.Form.{Form, subroutine, implicit_none, integers, common, simple, logical, opens_do, opens_while, end_do, go_on, opens_if, otherwise, otherwise_if, end_if, leaves, ends, Statement, at}
 use Rattle.def_text.specs.declared.stated.Kind.{Kind}
-use Rattle.def_text.specs.declared.stated.Kind.TheVariants.{Do, BlockIf, LogicalIf, Assign, Continue, Return, End, EndIf, EndDo, Else, ImplicitNone, ElseIf, DoWhile, Subroutine, Integer}
+use Rattle.def_text.specs.declared.stated.Kind.TheVariants.{Do, BlockIf, LogicalIf, Assign, Continue, Return, End, EndIf, EndDo, Else, ImplicitNone, ElseIf, DoWhile, Subroutine, Integer, Common}
 use Rattle.adj_parse.specs.Blocks.{Acts, Part, of_loop, of_while, of_if, of_else, of_chain, Block, is_chain, is_labelled, close_while}
 use Rattle.adj_parse.specs.Order.{innermost_is, some_is, breaks_loop}
 use Rattle.adj_parse.specs.Unit.{Current, Units, followed, open_blocks, is_misplaced}
@@ -19,6 +20,7 @@ abbrev pub kind_of : Form → Kind
 kind_of (subroutine x dummies) = Subroutine
 kind_of implicit_none = ImplicitNone
 kind_of (integers is) = Integer
+kind_of (common b is) = Common
 kind_of (simple a) = Assign
 kind_of (logical c a) = LogicalIf
 kind_of (opens_do l r n) = Do
@@ -36,17 +38,17 @@ kind_of ends = End
 abbrev pub stands : Kind → ℕ → Option Current → Bool
 stands kind l current = not (is_misplaced kind current) && not (breaks_loop kind l (open_blocks current))
 
-abbrev pub units_of : List Procedure → Option Current → Option (List Procedure)
+abbrev pub units_of : List Shared → Option Current → Option (List Shared)
 units_of done None = Some done
 units_of done (Some c) = None
 
 -- the units that statements are behind these
-unfoldable pub run : Units → List Statement → Option (List Procedure)
+unfoldable pub run : Units → List Statement → Option (List Shared)
 run u [] = units_of u.done u.current
 run u (at n l f ∷ ts) = cond (stands (kind_of f) l u.current) (run (followed u.done u.current n l f) ts) None
 
 -- a statement that let the machine go on
-pub picked : {ps : List Procedure} (b : Bool) (x : Option (List Procedure)) → cond b x None ≡ Some ps → (b ≡ true) × (x ≡ Some ps)
+pub picked : {ps : List Shared} (b : Bool) (x : Option (List Shared)) → cond b x None ≡ Some ps → (b ≡ true) × (x ≡ Some ps)
 picked true x h = (refl, h)
 picked false x h = absurd cc
 

@@ -3,7 +3,7 @@ use Rattle.std.proofs.Common.{◌≡◌, ℕ, ◌+◌, ◌-◌, ◌<◌, ◌≤�
 use Rattle.std.specs.Prelude.{All}
 use Rattle.std.proofs.lemmas.List.{at_drop_more, drop_all, length-drop}
 use Rattle.std.proofs.lemmas.List.Elements.{All-nil, All-cons}
-use Rattle.adj_tree.specs.Code.{Procedure}
+use Rattle.adj_tree.specs.Common.{Shared}
 use Rattle.adj_tree.specs.declared.fault.Fault.{Fault}
 use Rattle.adj_tree.specs.declared.fault.Fault.TheVariants.{Memory, Refused}
 use Rattle.adj_tree.specs.declared.fault.Refusal.{Refusal}
@@ -20,7 +20,7 @@ use Rattle.def_text.proofs.Covering.{all_covered}
 use Rattle.def_text.proofs.LinesMarked.{bind_ok}
 use Rattle.adj_parse.specs.Trees.{IsText, State, follow, trees_from}
 
-module _ (mode : Mode) (s : State) (all : List Stated) (i : ℕ) (total : Result (List Procedure) Refusal) (so_far : trees_from mode s (drop i all) ≡ total) where
+module _ (mode : Mode) (s : State) (all : List Stated) (i : ℕ) (total : Result (List Shared) Refusal) (so_far : trees_from mode s (drop i all) ≡ total) where
   -- no statement is left
   pub over_end : length all ≤ i → Ok s.units.done ≡ total
   unfolding trees_from

@@ -2,7 +2,7 @@
 use Rattle.std.specs.Prelude.{ℕ, Bool, true, false, not, ◌==◌, ◌&&◌, ◌||◌, List, [], ◌∷◌, length, Some, None}
 use Rattle.std.specs.List.{list_any}
 use Rattle.def_text.specs.declared.stated.Kind.{Kind}
-use Rattle.def_text.specs.declared.stated.Kind.TheVariants.{Do, BlockIf, LogicalIf, Continue, Return, End, EndIf, EndDo, Else, ImplicitNone, ElseIf, DoWhile, Subroutine, Integer}
+use Rattle.def_text.specs.declared.stated.Kind.TheVariants.{Do, BlockIf, LogicalIf, Continue, Return, End, EndIf, EndDo, Else, ImplicitNone, ElseIf, DoWhile, Subroutine, Integer, Common}
 use Rattle.adj_parse.specs.declared.phase.Phase.{Phase}
 use Rattle.adj_parse.specs.declared.phase.Phase.TheVariants.{Heading, Declaring, Leaving}
 use Rattle.adj_parse.specs.Blocks.{Part, of_loop, of_while, of_if, of_else, Block, is_labelled}
@@ -21,11 +21,12 @@ abbrev pub is_left : Phase → Bool
 is_left Leaving = true
 is_left phase = false
 
--- the statements of a unit in order: SUBROUTINE, at most one IMPLICIT NONE, INTEGER, executable ones, at most one RETURN, END
+-- the statements of a unit in order: SUBROUTINE, at most one IMPLICIT NONE, INTEGER and COMMON, executable ones, at most one RETURN, END
 abbrev pub may_follow : Kind → Phase → Bool
 may_follow Subroutine phase = false
 may_follow ImplicitNone phase = is_bare phase
 may_follow Integer phase = is_early phase
+may_follow Common phase = is_early phase
 may_follow End phase = true
 may_follow kind phase = not (is_left phase)
 

@@ -1,8 +1,9 @@
 -- Trees: the program that statements are, or their first fault.
 use Rattle.std.specs.Prelude.{◌≡◌, ℕ, ◌-◌, ◌==◌, nat_le, Bool, true, false, not, ◌&&◌, ◌||◌, List, [], ◌∷◌, length, Option, Some, None, is_none, unwrap_or, Result, Ok, Err, ◌⊎◌, if◌then◌else◌}
-use Rattle.adj_tree.specs.Code.{Mark, unmarked, Procedure}
+use Rattle.adj_tree.specs.Code.{Mark, unmarked}
 use Rattle.adj_tree.specs.View.{mark_of}
 use Rattle.adj_tree.specs.declared.fault.Refusal.{Refusal}
+use Rattle.adj_tree.specs.Common.{Shared}
 use Rattle.adj_parse_expression.specs.declared.flaw.Flaw.{Flaw}
 use Rattle.adj_parse_expression.specs.declared.flaw.Flaw.TheVariants.{Large, Deep}
 use Rattle.def_text.specs.Form.{Form}
@@ -99,7 +100,7 @@ unfoldable pub follow : Mode → State → Stated → ℕ → Result State Refus
 follow mode s t left = checked (bounds_of mode) s t left (said (bounds_of mode).depth (mark_of t.mark) t.kind (lexemes_of t.text t.tokens)) >>= λ f. Ok (behind s t f)
 
 -- the units so far, and those of the statements that are left
-unfoldable pub trees_from : Mode → State → List Stated → Result (List Procedure) Refusal
+unfoldable pub trees_from : Mode → State → List Stated → Result (List Shared) Refusal
 trees_from mode s [] = Ok s.units.done
 trees_from mode s (t ∷ ts) = follow mode s t (length ts) >>= λ next. trees_from mode next ts
 
@@ -107,10 +108,10 @@ trees_from mode s (t ∷ ts) = follow mode s t (length ts) >>= λ next. trees_fr
 abbrev pub IsBeyond : {A : Type 0} → Result A Refusal → Type 0
 IsBeyond r = (e : Refusal) × (r ≡ Err e) × ((e.code ≡ 5) ⊎ (e.code ≡ 21))
 
--- the units of a text, or the first fault of its statements
-abbrev pub trees_of : Mode → List Stated → Result (List Procedure) Refusal
+-- the units of a text with their COMMON statements, or the first fault of its statements
+abbrev pub trees_of : Mode → List Stated → Result (List Shared) Refusal
 trees_of mode stated = trees_from mode (start mode) stated
 
--- the program of a text in a mode, or the first fault of its lines, its statements or its trees
-abbrev pub program_of : Mode → List ℕ → Result (List Procedure) Refusal
-program_of mode bytes = statements_of (limits_of mode) bytes >>= trees_of mode
+-- the program of a text in a mode as it is read, with its blocks, or the first fault of its lines, its statements or its trees
+abbrev pub shared_program_of : Mode → List ℕ → Result (List Shared) Refusal
+shared_program_of mode bytes = statements_of (limits_of mode) bytes >>= trees_of mode

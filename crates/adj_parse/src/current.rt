@@ -1,7 +1,8 @@
 //! The unit that is being read.
 
-ghost use Rattle.std.specs.Prelude.{◌≡◌, ◌++◌, map, not, ◌&&◌, ◌||◌, OnOk, IfOk};
-ghost use Rattle.adj_tree.specs.View.{declaration_of, mark_of, procedure_of};
+ghost use Rattle.std.specs.Prelude.{◌≡◌, ◌++◌, ◌∷◌, [], map, not, ◌&&◌, ◌||◌, OnOk, IfOk};
+ghost use Rattle.adj_tree.specs.View.{declaration_of, mark_of};
+ghost use Rattle.adj_tree.specs.CommonView.{common_of, shared_of};
 ghost use Rattle.def_text.specs.Unit as unit;
 ghost use Rattle.adj_parse.specs.Order.{may_follow, suits, leaves_loop};
 ghost use Rattle.adj_parse.specs.Unit.{begun, finished, continued};
@@ -11,7 +12,9 @@ ghost use Rattle.adj_parse_statement.specs.View.{item_of, form_of};
 use crate::nest::Nest;
 use crate::phase::Phase;
 use adj_parse_statement::{Item, Said};
-use adj_tree::{Decl, Decls, Mark, Memory, Name, NameList, NameTable, Unit};
+use adj_tree::{
+    Common, Commons, Decl, Decls, Mark, Memory, Name, NameList, NameTable, SharedUnit, Unit,
+};
 use def_text::Kind;
 use std::alloc::Global;
 
@@ -23,11 +26,12 @@ pub(crate) struct Current {
     dummies: NameList,
     none: bool,
     decls: Vec<Decl>,
+    commons: Vec<Common>,
     phase: Phase,
     pub nest: Nest,
 }
 
-// Adds the declarations of an INTEGER statement.
+// Adds the items of an INTEGER or a COMMON statement as declarations.
 fn declare(decls: &mut Vec<Decl>, line: u32, items: Vec<Item>) -> Result<(), Memory>
     ensures { OnOk result (map declaration_of decls.new.items ≡ map declaration_of decls.old.items ++ map (unit.declaration_of line) (map item_of items.items)) }
 {
@@ -38,6 +42,27 @@ fn declare(decls: &mut Vec<Decl>, line: u32, items: Vec<Item>) -> Result<(), Mem
             extents: item.extents,
         })?;
     }
+    Ok(())
+}
+
+// Adds a COMMON statement.
+fn share(
+    alloc: Global,
+    commons: &mut Vec<Common>,
+    line: u32,
+    block: Name,
+    items: Vec<Item>,
+) -> Result<(), Memory>
+    ensures { OnOk result (map common_of commons.new.items ≡ map common_of commons.old.items ++ unit.common_of line block (map item_of items.items) ∷ []) }
+{
+    let mut decls = Vec::new(alloc);
+    declare(&mut decls, line, items)?;
+    let members = Decls::new(decls);
+    commons.push(Common {
+        line,
+        block,
+        members,
+    })?;
     Ok(())
 }
 
@@ -52,6 +77,7 @@ impl Current {
             dummies,
             none: false,
             decls: Vec::new(alloc),
+            commons: Vec::new(alloc),
             phase: Phase::Heading,
             nest: Nest::new(alloc),
         }
@@ -85,6 +111,10 @@ impl Current {
                 self.phase = Phase::Declaring;
                 declare(&mut self.decls, line, items)
             }
+            Said::Common(block, items) => {
+                self.phase = Phase::Declaring;
+                share(alloc, &mut self.commons, line, block, items)
+            }
             Said::Return => {
                 self.phase = Phase::Leaving;
                 Ok(())
@@ -97,18 +127,20 @@ impl Current {
     }
 
     /// The unit at its END.
-    pub(crate) fn finished(self, alloc: Global) -> Result<Unit, Memory>
-        ensures { IfOk result (λ u. procedure_of u ≡ finished (current_of self)) }
+    pub(crate) fn finished(self, alloc: Global) -> Result<SharedUnit, Memory>
+        ensures { IfOk result (λ u. shared_of u ≡ finished (current_of self)) }
     {
         let mut body = self.nest.into_body(alloc)?;
         body.share(alloc, &mut NameTable::new(alloc))?;
-        Ok(Unit {
+        let unit = Unit {
             line: self.line,
             name: self.name,
             dummies: self.dummies,
             none: self.none,
             decls: Decls::new(self.decls),
             body,
-        })
+        };
+        let commons = Commons::new(self.commons);
+        Ok(SharedUnit { unit, commons })
     }
 }

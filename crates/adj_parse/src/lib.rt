@@ -1,4 +1,4 @@
-//! Statements to trees.
+//! Statements to trees, with the COMMON statements of each unit.
 //!
 //! `program` makes the units of a text out of its statements, or gives the first fault of their grammar, their order and their limits.
 //! `parser` takes the statements in order, `nest` holds the blocks that are open. The crate stands on the reader of one statement

@@ -2,8 +2,9 @@
 
 ghost use Rattle.std.specs.Prelude.{◌≡◌, ◌==◌, ℕ, List, Some, None, nat_le, ◌&&◌, length, OnOk, option_map};
 ghost use Rattle.adj_tree.specs.Code as code;
-ghost use Rattle.adj_tree.specs.Code.{Procedure};
-ghost use Rattle.adj_tree.specs.View.{mark_of, procedures_of};
+ghost use Rattle.adj_tree.specs.View.{mark_of};
+ghost use Rattle.adj_tree.specs.Common.{Shared};
+ghost use Rattle.adj_tree.specs.CommonView.{shared_units_of};
 ghost use Rattle.def_text.specs.Refused.{Gives};
 ghost use Rattle.adj_parse_expression.specs.Front.{AreSlices};
 ghost use Rattle.adj_parse_expression.specs.View.{seen};
@@ -18,14 +19,14 @@ use crate::bounds::Bounds;
 use crate::current::Current;
 use adj_parse_expression::Flaw;
 use adj_parse_statement::{Said, said};
-use adj_tree::{Code, Fault, Mark, Memory, Program, Unit, Units};
+use adj_tree::{Code, Fault, Mark, Memory, SharedProgram, SharedUnit, SharedUnits};
 use def_text::{Kind, Mode, Stated};
 use std::alloc::Global;
 
 /// The units so far, and how many more statements the text may have.
 #[derive(Drop)]
 pub(crate) struct Parser {
-    units: Vec<Unit>,
+    units: Vec<SharedUnit>,
     current: Option<Current>,
     room: u32,
 }
@@ -77,7 +78,7 @@ fn is_full(limit: Option<usize>, count: usize) -> bool
 
 // The unit that a statement outside of units begins.
 fn heading(alloc: Global, line: u32, said: Said) -> Option<Current>
-    ensures { (label : ℕ) (mark : code.Mark) (done : List Procedure) → followed done None line label (form_of mark said) ≡ record { done = done; current = option_map current_of result } }
+    ensures { (label : ℕ) (mark : code.Mark) (done : List Shared) → followed done None line label (form_of mark said) ≡ record { done = done; current = option_map current_of result } }
 {
     match said {
         Said::Subroutine(name, dummies) => Some(Current::new(alloc, line, name, dummies)),
@@ -257,11 +258,11 @@ impl Parser {
     }
 
     /// The units behind the last statement.
-    pub(crate) fn finish(self) -> Program
-        ensures { procedures_of result ≡ (state_of self).units.done }
+    pub(crate) fn finish(self) -> SharedProgram
+        ensures { shared_units_of result ≡ (state_of self).units.done }
     {
-        Program {
-            units: Units::new(self.units),
+        SharedProgram {
+            units: SharedUnits::new(self.units),
         }
     }
 }

@@ -10,7 +10,7 @@ use def_text::Kind;
 pub(crate) enum Phase {
     /// SUBROUTINE alone.
     Heading,
-    /// IMPLICIT NONE or INTEGER too.
+    /// IMPLICIT NONE, INTEGER or COMMON too.
     Declaring,
     /// Executable statements too.
     Acting,
@@ -26,7 +26,7 @@ impl Phase {
         match kind {
             Kind::Subroutine => false,
             Kind::ImplicitNone => self == Phase::Heading,
-            Kind::Integer => matches!(self, Phase::Heading | Phase::Declaring),
+            Kind::Integer | Kind::Common => matches!(self, Phase::Heading | Phase::Declaring),
             Kind::End => true,
             _ => self != Phase::Leaving,
         }

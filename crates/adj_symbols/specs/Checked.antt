@@ -1,5 +1,6 @@
 -- What is known of a program that is checked.
-use Rattle.std.specs.Prelude.{◌≡◌, List, map, Bool}
+use Rattle.std.specs.Prelude.{◌≡◌, List, [], map, Bool}
+use Rattle.adj_tree.specs.Code.{Procedure}
 use Rattle.adj_tree.specs.declared.fault.Fault.{Fault}
 use Rattle.adj_tree.specs.declared.fault.Fault.TheVariants.{Memory, Refused}
 use Rattle.adj_tree.specs.declared.fault.Refusal.{Refusal}
@@ -11,7 +12,12 @@ use Rattle.def_meaning.specs.Read.{read_rule}
 use Rattle.def_meaning.specs.Written.{write_rule}
 use Rattle.def_names.specs.Fault.{run_rules}
 use Rattle.def_names.specs.Check.{IsSound}
+use Rattle.def_names.specs.UnitFaults.{unit_faults}
 use Rattle.def_names.specs.Variables.{Name, variables}
+
+-- a program can be written, unless the names of its units have a fault: with such names a CALL may have the form of a call of the runtime
+abbrev pub IsWrittenIfNamed : List Procedure → Type 0
+IsWrittenIfNamed ps = unit_faults ps ≡ [] → IsWritten ps
 
 -- the program, the variables of each unit, and which of its dummies each unit writes and reads
 pub record Known : Type 0 where

@@ -14,7 +14,7 @@ ghost use Rattle.def_names.specs.NameFaults.{name_faults};
 ghost use Rattle.def_names.specs.UnitFaults.{unit_faults};
 ghost use Rattle.def_names.specs.Variables.{variables};
 ghost use Rattle.def_names.specs.WriteFaults.{write_faults};
-ghost use Rattle.adj_symbols.specs.Checked.{IfRefused};
+ghost use Rattle.adj_symbols.specs.Checked.{IfRefused, IsWrittenIfNamed};
 ghost use Rattle.adj_symbols.specs.Rules.{rules_of, rules_for};
 
 use crate::calls::add_calls;
@@ -149,7 +149,8 @@ fn check_all(alloc: Global, rules: Rules, units: &[Unit]) -> Result<Facts, Fault
 /// The program with its variables and with the dummies that its units write and read, or the first fault of its units (codes 18 and 19),
 /// names (7, 8, 9, 12, 18 and 21), calls (14 and 15), chains (16 and 21) and writes (11, 13, 17 and 24). docs/REFUSALS.md says each in words.
 pub fn check(alloc: Global, program: Program, mode: Mode) -> Result<Checked, Fault>
-    requires written { IsWritten (procedures_of program) }
+    requires written { IsWrittenIfNamed (procedures_of program) }
+    ensures written { IfOk result (λ _. IsWritten (procedures_of program)) }
     ensures sound { IfOk result (λ _. IsSound (rules_for mode) (procedures_of program)) }
     ensures program { IfOk result (λ c. c.program ≡ program) }
     ensures variables { IfOk result (λ c. c.variables ≡ map variables (procedures_of program)) }

@@ -2,11 +2,12 @@
 use Rattle.std.proofs.Common.{◌≡◌, ℕ, suc, Bool, true, false, cond, List, [], ◌∷◌, length, Option, Some, None, refl, sym, ap, ◌∙◌}
 use Rattle.std.specs.Prelude.{◌==◌, ◌&&◌, ◌||◌, not, is_none}
 use Rattle.std.specs.List.{list_any}
-use Rattle.adj_tree.specs.Code.{Test, Code, Procedure}
-use Rattle.def_text.specs.Form.{Form, subroutine, implicit_none, integers, opens_do, opens_while, end_do, go_on, opens_if, otherwise, otherwise_if, end_if, leaves, ends, Statement, at}
+use Rattle.adj_tree.specs.Code.{Test, Code}
+use Rattle.adj_tree.specs.Common.{Shared}
+use Rattle.def_text.specs.Form.{Form, subroutine, implicit_none, integers, common, opens_do, opens_while, end_do, go_on, opens_if, otherwise, otherwise_if, end_if, leaves, ends, Statement, at}
 use Rattle.def_text.specs.Unit.{ReadsUnits}
 use Rattle.def_text.specs.declared.stated.Kind.{Kind}
-use Rattle.def_text.specs.declared.stated.Kind.TheVariants.{Continue, Return, End, EndIf, EndDo, Else, ImplicitNone, ElseIf, Subroutine, Integer}
+use Rattle.def_text.specs.declared.stated.Kind.TheVariants.{Continue, Return, End, EndIf, EndDo, Else, ImplicitNone, ElseIf, Subroutine, Integer, Common}
 use Rattle.adj_parse.specs.Blocks.{Acts, Part, of_loop, of_while, of_if, of_else, of_chain, Block, Nest, close, close_while, turned, turn, acted, ended, is_chain, is_labelled}
 use Rattle.adj_parse.specs.Order as order
 use Rattle.adj_parse.specs.Order.{is_bare, is_early, is_left, may_follow, has_no_label, is_if, is_second, innermost_is, some_is, reaches_out, breaks_loop}
@@ -42,6 +43,7 @@ order_same : (kind : Kind) (c : Current) → may_at kind (stage_of c) ≡ may_fo
 order_same Subroutine c = refl
 order_same ImplicitNone c = refl
 order_same Integer c = refl
+order_same Common c = refl
 order_same End c = refl
 order_same kind c = refl
 
@@ -193,18 +195,19 @@ acted_same nest n l (otherwise_if c) = ap (λ os. first_part ∷ os) (turn_same 
 acted_same nest n l end_if = closed_same is_chained is_chain chain_same (close nest.blocks nest.acts).blocks (close nest.blocks nest.acts).acts ∙ ap (closed is_chained) (close_same nest.blocks nest.acts)
 acted_same nest n l f = refl
 
-pub next_same : (done : List Procedure) (c : Option Current) (n l : ℕ) (f : Form) → place_of (followed done c n l f).current ≡ next_at l f (place_of c)
+pub next_same : (done : List Shared) (c : Option Current) (n l : ℕ) (f : Form) → place_of (followed done c n l f).current ≡ next_at l f (place_of c)
 next_same done None n l (subroutine x ds) = refl
 next_same done None n l f = refl
 next_same done (Some c) n l ends = refl
 next_same done (Some c) n l implicit_none = refl
 next_same done (Some c) n l (integers is) = refl
+next_same done (Some c) n l (common b is) = refl
 next_same done (Some c) n l leaves = refl
 next_same done (Some c) n l f = ap (in_unit _) (acted_same c.nest n l f)
 
 -- ---- what the machine answers
 
-pub run_accepted : (ts : List Statement) (u : Units) (ps : List Procedure) → run u ts ≡ Some ps → accepted (place_of u.current) ts ≡ true
+pub run_accepted : (ts : List Statement) (u : Units) (ps : List Shared) → run u ts ≡ Some ps → accepted (place_of u.current) ts ≡ true
 unfolding run
 run_accepted [] u ps h = none u.current h
   where
@@ -219,11 +222,11 @@ both : (a b : Bool) → (a && b) ≡ true → (a ≡ true) × (b ≡ true)
 both true b h = (refl, h)
 both false b h = absurd cc
 
-pub accepted_runs : (ts : List Statement) (u : Units) → accepted (place_of u.current) ts ≡ true → (ps : List Procedure) × (run u ts ≡ Some ps)
+pub accepted_runs : (ts : List Statement) (u : Units) → accepted (place_of u.current) ts ≡ true → (ps : List Shared) × (run u ts ≡ Some ps)
 unfolding run
 accepted_runs [] u h = none u.current h
   where
-    none : (c : Option Current) → is_none (place_of c) ≡ true → (ps : List Procedure) × (units_of u.done c ≡ Some ps)
+    none : (c : Option Current) → is_none (place_of c) ≡ true → (ps : List Shared) × (units_of u.done c ≡ Some ps)
     none None h = (u.done, refl)
     none (Some c) h = absurd cc
 accepted_runs (at n l f ∷ ts) u h =
@@ -231,8 +234,8 @@ accepted_runs (at n l f ∷ ts) u h =
     let rest = accepted_runs ts (followed u.done u.current n l f) (ap (λ w. accepted w ts) (next_same u.done u.current n l f) ∙ here.1) in
     (rest.0, rw (sym (stands_same (kind_of f) l u.current) ∙ here.0) rest.1)
 
-pub reads_accepted : (ts : List Statement) (ps : List Procedure) → ReadsUnits ts ps → accepted None ts ≡ true
+pub reads_accepted : (ts : List Statement) (ps : List Shared) → ReadsUnits ts ps → accepted None ts ≡ true
 reads_accepted ts ps r = run_accepted ts nothing ps (units_run r)
 
-pub accepted_reads : (ts : List Statement) → accepted None ts ≡ true → (ps : List Procedure) × ReadsUnits ts ps
+pub accepted_reads : (ts : List Statement) → accepted None ts ≡ true → (ps : List Shared) × ReadsUnits ts ps
 accepted_reads ts h = let r = accepted_runs ts nothing h in (r.0, run_reads ts r.0 r.1)

@@ -3,9 +3,9 @@ use Rattle.std.proofs.Common.{◌≡◌, ℕ, pos, Bool, true, false, List, [], 
 use Rattle.std.proofs.lemmas.List.{append_assoc, map-append}
 use Rattle.std.specs.Prelude.{◌&&◌}
 use Rattle.adj_tree.specs.Code.{plain, Term, lit, none, Test, compare, is_less, unmarked, Act, assign}
-use Rattle.def_text.specs.Form.{Form, subroutine, implicit_none, integers, simple, logical, opens_do, opens_while, end_do, go_on, opens_if, otherwise, otherwise_if, end_if, leaves, ends, Statement, at}
+use Rattle.def_text.specs.Form.{Form, subroutine, implicit_none, integers, common, simple, logical, opens_do, opens_while, end_do, go_on, opens_if, otherwise, otherwise_if, end_if, leaves, ends, Statement, at}
 use Rattle.def_text.specs.declared.stated.Kind.{Kind}
-use Rattle.def_text.specs.declared.stated.Kind.TheVariants.{Do, BlockIf, LogicalIf, Assign, Continue, Return, End, EndIf, EndDo, Else, ImplicitNone, ElseIf, DoWhile, Subroutine, Integer, Call}
+use Rattle.def_text.specs.declared.stated.Kind.TheVariants.{Do, BlockIf, LogicalIf, Assign, Continue, Return, End, EndIf, EndDo, Else, ImplicitNone, ElseIf, DoWhile, Subroutine, Integer, Call, Common}
 use Rattle.adj_parse.proofs.Machine.{kind_of}
 use Rattle.def_refused.specs.Following as following
 use Rattle.def_refused.specs.Following.{with_label, IsFree, Continues, IsOf, CanFollow}
@@ -30,6 +30,7 @@ pub same_class : {kind : Kind} {f : Form} → IsOf kind f → (l : ℕ) (w : Opt
 same_class following.IsOf.heading l w = refl
 same_class following.IsOf.implicit l w = refl
 same_class following.IsOf.declaration l w = refl
+same_class following.IsOf.shared l w = refl
 same_class following.IsOf.assigned l w = refl
 same_class following.IsOf.called l None = refl
 same_class following.IsOf.called l (Some i) = refl
@@ -59,6 +60,7 @@ some_form : (kind : Kind) → (f : Form) × IsOf kind f
 some_form Subroutine = (subroutine [] [], following.IsOf.heading)
 some_form ImplicitNone = (implicit_none, following.IsOf.implicit)
 some_form Integer = (integers [], following.IsOf.declaration)
+some_form Common = (common [] [], following.IsOf.shared)
 some_form Assign = (simple some_act, following.IsOf.assigned)
 some_form Call = (simple some_act, following.IsOf.called)
 some_form LogicalIf = (logical some_test some_act, following.IsOf.guarded)

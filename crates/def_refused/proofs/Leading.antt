@@ -4,7 +4,7 @@ use Rattle.std.proofs.lemmas.Bool.{ne_eqb, eqb-true, eqb-false}
 use Rattle.std.proofs.lemmas.List.{length-map}
 use Rattle.std.specs.Prelude.{◌==◌, ◌&&◌, not, option_map}
 use Rattle.std.specs.List.{list_any}
-use Rattle.def_text.specs.Form.{Form, subroutine, implicit_none, integers, opens_do, opens_while, end_do, go_on, opens_if, otherwise, otherwise_if, end_if, leaves, ends, Statement, at}
+use Rattle.def_text.specs.Form.{Form, subroutine, implicit_none, integers, common, opens_do, opens_while, end_do, go_on, opens_if, otherwise, otherwise_if, end_if, leaves, ends, Statement, at}
 use Rattle.def_text.specs.declared.stated.Kind.{Kind}
 use Rattle.def_text.specs.declared.stated.Kind.TheVariants.{Return, End, EndIf, EndDo, Else, ElseIf}
 use Rattle.adj_parse.proofs.Machine.{kind_of}
@@ -204,6 +204,7 @@ module _ (k : ℕ) (some : k ≢ 0) where
       inner : (f : Form) → next_at l (relabelled f) (renewed_at (Some i)) ≡ renewed_at (next_in l f i)
       inner implicit_none = refl
       inner (integers is) = refl
+      inner (common b is) = refl
       inner leaves = refl
       inner ends = refl
       inner f = ap (in_unit acting) (behind_kept l f i.blocks other)

@@ -11,3 +11,4 @@ pub mod TreeWalk
 pub mod UpTo
 pub mod WholeText
 pub mod Ending
+pub mod Scanned

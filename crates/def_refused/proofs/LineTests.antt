@@ -11,7 +11,8 @@ use Rattle.def_text.specs.Line.{cut_lines, without_cr, next_number, is_data, col
 use Rattle.def_text.specs.Lined.{Lines, Directive, Pass, start, flushed, with_directive, with_initial, has_room, with_continuation, behind_directive, with_line, ended, pass_over, lines_of}
 use Rattle.def_text.specs.Refused.{◌>>=◌, refused, limited}
 use Rattle.def_refused.specs.First.{code_at, limit_at, rank, IsLeast, HasNone, IsAnswer}
-use Rattle.def_refused.specs.LineFaults.{Line, numbered, lines_in, Sort, directive, comment, continuation, initial, sort, lead_in, continuations, LineFault, unlabelled, shifted, alone, unmarked, foreign, garbled, astray, too_long}
+use Rattle.def_text.specs.Forming.{Line, numbered, lines_in, Sort, directive, comment, continuation, initial, sort}
+use Rattle.def_refused.specs.LineFaults.{lead_in, continuations, LineFault, unlabelled, shifted, alone, unmarked, foreign, garbled, astray, too_long}
 use Rattle.def_refused.specs.Refusals.{LinesAnswer, LinesRefused, LinesAccepted}
 use Rattle.def_refused.proofs.Tests.{chosen, forgotten, when, true_when, when_ranked, test_more, Present, AreRanked, only_where, or_left, or_right, or_either, not_is, AreTested, AreOne, tested, tested_one, answer_behind, answer_more, all_single, first_refused, none_answered}
 

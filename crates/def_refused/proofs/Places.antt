@@ -5,9 +5,9 @@ use Rattle.std.proofs.lemmas.Bool.{ne_eqb, eq-eqb, eqb-true}
 use Rattle.adj_parse.proofs.Truths.{and_false}
 use Rattle.std.specs.Prelude.{◌==◌, ◌&&◌, ◌||◌, not, is_none}
 use Rattle.std.specs.List.{list_any}
-use Rattle.def_text.specs.Form.{Form, subroutine, implicit_none, integers, simple, logical, opens_do, opens_while, end_do, go_on, opens_if, otherwise, otherwise_if, end_if, leaves, ends, Statement, at}
+use Rattle.def_text.specs.Form.{Form, subroutine, implicit_none, integers, common, simple, logical, opens_do, opens_while, end_do, go_on, opens_if, otherwise, otherwise_if, end_if, leaves, ends, Statement, at}
 use Rattle.def_text.specs.declared.stated.Kind.{Kind}
-use Rattle.def_text.specs.declared.stated.Kind.TheVariants.{Return, End, EndIf, EndDo, Else, ImplicitNone, ElseIf, Subroutine, Integer}
+use Rattle.def_text.specs.declared.stated.Kind.TheVariants.{Return, End, EndIf, EndDo, Else, ImplicitNone, ElseIf, Subroutine, Integer, Common}
 use Rattle.adj_parse.specs.Order.{is_heading}
 use Rattle.adj_parse.proofs.Machine.{kind_of}
 use Rattle.def_refused.specs.Ends.{is_first}
@@ -36,6 +36,7 @@ abbrev pub may_at : Kind → Stage → Bool
 may_at Subroutine g = false
 may_at ImplicitNone g = g.bare
 may_at Integer g = g.early
+may_at Common g = g.early
 may_at End g = true
 may_at kind g = not g.left
 
@@ -75,6 +76,7 @@ stands_at kind l w = not (misplaced_at kind w) && not (broken_at kind l w)
 abbrev pub next_in : ℕ → Form → Inner → Option Inner
 next_in l implicit_none i = in_unit declaring i.blocks
 next_in l (integers is) i = in_unit declaring i.blocks
+next_in l (common b is) i = in_unit declaring i.blocks
 next_in l leaves i = in_unit leaving i.blocks
 next_in l ends i = None
 next_in l f i = in_unit acting (behind l f i.blocks)
@@ -260,6 +262,7 @@ behind_fine l (logical c a) os i s f = f
 behind_fine l (subroutine x ds) os i s f = f
 behind_fine l implicit_none os i s f = f
 behind_fine l (integers is) os i s f = f
+behind_fine l (common b is) os i s f = f
 behind_fine l leaves os i s f = f
 behind_fine l ends os i s f = f
 
@@ -275,6 +278,7 @@ next_place l f (Some j) i h p = inner f i (stood (may_at (kind_of f) j.stage) (s
     inner : (f : Form) → IsLabelled f → (may_at (kind_of f) j.stage ≡ true) × (suits (kind_of f) j.blocks ≡ true) → IsPlace (next_in l f j)
     inner implicit_none i s = (p.0, λ e. absurd cc)
     inner (integers is) i s = (p.0, λ e. absurd cc)
+    inner (common b is) i s = (p.0, λ e. absurd cc)
     inner leaves i s = (p.0, λ e. none_open j.blocks s.1)
     inner ends i s = tt
     inner f i s = (behind_fine l f j.blocks i s.1 p.0, λ e. absurd cc)

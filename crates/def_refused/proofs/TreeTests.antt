@@ -7,13 +7,12 @@ use Rattle.adj_tree.specs.View.{mark_of}
 use Rattle.adj_tree.specs.declared.fault.Refusal.{Refusal}
 use Rattle.adj_parse_expression.specs.Judged.{judged_by}
 use Rattle.def_text.specs.Form.{Form, Statement}
-use Rattle.def_text.specs.Reads as texts
 use Rattle.def_text.specs.Reads.{ReadsAll}
 use Rattle.def_text.specs.Refused.{limited}
 use Rattle.def_text.specs.Lexeme.{Lexeme}
 use Rattle.def_text.specs.declared.mode.Mode.{Mode}
 use Rattle.def_text.specs.declared.stated.Kind.{Kind}
-use Rattle.def_text.specs.declared.stated.Kind.TheVariants.{End, EndIf, EndDo, Else, ImplicitNone, ElseIf, Subroutine, Integer}
+use Rattle.def_text.specs.declared.stated.Kind.TheVariants.{End, EndIf, EndDo, Else, ImplicitNone, ElseIf, Subroutine, Integer, Common}
 use Rattle.def_text.specs.declared.stated.Stated.{Stated}
 use Rattle.adj_parse_statement.specs.Phrase.{Phrase, Says}
 use Rattle.adj_parse_statement.specs.Phrases.{phrase_of}
@@ -67,6 +66,7 @@ leaves_follows kind i bare h = by kind h
     by ElseIf g = acting (i.stage.left) refl (inner _ _ g)
     by Subroutine g = let no : false ≡ true = sym (and_false (is_innermost has_label i.blocks)) ∙ g in absurd cc
     by Integer g = let no : false ≡ true = sym (and_false (is_innermost has_label i.blocks)) ∙ g in absurd cc
+    by Common g = let no : false ≡ true = sym (and_false (is_innermost has_label i.blocks)) ∙ g in absurd cc
     by ImplicitNone g = let no : false ≡ true = sym (and_false (is_innermost has_label i.blocks)) ∙ g in absurd cc
     by kind g = never (is_innermost has_label i.blocks) g
 

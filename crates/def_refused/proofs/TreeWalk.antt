@@ -3,11 +3,12 @@ use Rattle.std.proofs.Common.{◌≡◌, ℕ, suc, true, false, cond, List, [], 
 use Rattle.std.specs.Prelude.{◌==◌, ◌&&◌, ◌||◌, is_none, nat_le}
 use Rattle.std.proofs.lemmas.Bool.{or_parts}
 use Rattle.std.proofs.lemmas.List.{reverse-append, length-append}
-use Rattle.adj_tree.specs.Code.{Mark, Procedure}
+use Rattle.adj_tree.specs.Code.{Mark}
+use Rattle.adj_tree.specs.Common.{Shared}
 use Rattle.adj_tree.specs.View.{mark_of}
 use Rattle.adj_tree.specs.declared.fault.Refusal.{Refusal}
 use Rattle.def_text.specs.Form as forms
-use Rattle.def_text.specs.Form.{Form, subroutine, implicit_none, integers, leaves, ends, Statement, at, ReadsForm}
+use Rattle.def_text.specs.Form.{Form, subroutine, implicit_none, integers, common, leaves, ends, Statement, at, ReadsForm}
 use Rattle.def_text.specs.Reads as texts
 use Rattle.def_text.specs.Reads.{ReadsAll}
 use Rattle.def_text.specs.Refused.{◌>>=◌}
@@ -40,6 +41,7 @@ pub form_class : {mark : Mark} {kind : Kind} {ws : List Lexeme} {f : Form} → R
 form_class (forms.ReadsForm.heading d) = following.IsOf.heading
 form_class forms.ReadsForm.implicit = following.IsOf.implicit
 form_class (forms.ReadsForm.declaration d) = following.IsOf.declaration
+form_class (forms.ReadsForm.shared d) = following.IsOf.shared
 form_class (forms.ReadsForm.assigned d) = following.IsOf.assigned
 form_class (forms.ReadsForm.calls d) = following.IsOf.called
 form_class (forms.ReadsForm.guarded d e) = following.IsOf.guarded
@@ -58,6 +60,7 @@ same_end : {kind : Kind} {f : Form} → IsOf kind f → is_end kind ≡ is_end (
 same_end following.IsOf.heading = refl
 same_end following.IsOf.implicit = refl
 same_end following.IsOf.declaration = refl
+same_end following.IsOf.shared = refl
 same_end following.IsOf.assigned = refl
 same_end following.IsOf.called = refl
 same_end following.IsOf.guarded = refl
@@ -111,15 +114,16 @@ next_bare l f (Some i) h b = inner f (stood (may_at (kind_of f) i.stage) (suits 
     inner : (f : Form) → (may_at (kind_of f) i.stage ≡ true) × (suits (kind_of f) i.blocks ≡ true) → IsBare (next_in l f i)
     inner implicit_none s = λ e. absurd cc
     inner (integers is) s = λ e. absurd cc
+    inner (common b is) s = λ e. absurd cc
     inner leaves s = λ e. none_open i.blocks s.1
     inner ends s = tt
     inner f s = λ e. absurd cc
 
-one_more : (done : List Procedure) (p : Procedure) → length (done ++ p ∷ []) ≡ suc (length done)
+one_more : (done : List Shared) (p : Shared) → length (done ++ p ∷ []) ≡ suc (length done)
 one_more done p = omega (arith, length-append done (p ∷ []))
 
 -- and there is one unit more behind END
-more_done : (done : List Procedure) (c : Option Current) (n l : ℕ) (f : Form) → stands_at (kind_of f) l (place_of c) ≡ true → length (followed done c n l f).done ≡ cond (is_end (kind_of f)) (suc (length done)) (length done)
+more_done : (done : List Shared) (c : Option Current) (n l : ℕ) (f : Form) → stands_at (kind_of f) l (place_of c) ≡ true → length (followed done c n l f).done ≡ cond (is_end (kind_of f)) (suc (length done)) (length done)
 more_done done None n l (subroutine x ds) h = refl
 more_done done None n l f h = absurd cc
 more_done done (Some c) n l ends h = one_more done (finished c)

@@ -1,11 +1,12 @@
 -- Following: which statements can follow others, by the grammar of units.
 use Rattle.std.specs.Prelude.{◌≢◌, ℕ, ◌==◌, List, [], ◌∷◌, ◌++◌, map, Option, option_map, if◌then◌else◌}
-use Rattle.adj_tree.specs.Code.{Test, Mark, Act, Procedure}
-use Rattle.def_text.specs.Form.{Form, subroutine, implicit_none, integers, simple, logical, opens_do, opens_while, end_do, go_on, opens_if, otherwise, otherwise_if, end_if, leaves, ends, Statement, at}
+use Rattle.adj_tree.specs.Code.{Test, Mark, Act}
+use Rattle.adj_tree.specs.Common.{Shared}
+use Rattle.def_text.specs.Form.{Form, subroutine, implicit_none, integers, common, simple, logical, opens_do, opens_while, end_do, go_on, opens_if, otherwise, otherwise_if, end_if, leaves, ends, Statement, at}
 use Rattle.def_text.specs.Statement.{Item, Range}
 use Rattle.def_text.specs.Unit.{ReadsUnits}
 use Rattle.def_text.specs.declared.stated.Kind.{Kind}
-use Rattle.def_text.specs.declared.stated.Kind.TheVariants.{Do, BlockIf, LogicalIf, Assign, Continue, Return, End, EndIf, EndDo, Else, ImplicitNone, ElseIf, DoWhile, Subroutine, Integer, Call}
+use Rattle.def_text.specs.declared.stated.Kind.TheVariants.{Do, BlockIf, LogicalIf, Assign, Continue, Return, End, EndIf, EndDo, Else, ImplicitNone, ElseIf, DoWhile, Subroutine, Integer, Call, Common}
 
 -- `DO 0` has a label that no CONTINUE can have; it counts as a DO with label k, where no statement has that
 abbrev pub renumbered : ℕ → ℕ → ℕ
@@ -24,7 +25,7 @@ pub record Continues (statements : List Statement) : Type 0 where
   pub label : ℕ
   pub free : IsFree label statements
   pub more : List Statement
-  pub units : List Procedure
+  pub units : List Shared
   pub reads : ReadsUnits (map (with_label label) statements ++ more) units
 
 -- a statement of this class says this
@@ -32,6 +33,7 @@ pub data IsOf : Kind → Form → Type 0 where
   heading : {x : List ℕ} {dummies : List (List ℕ)} → IsOf Subroutine (subroutine x dummies)
   implicit : IsOf ImplicitNone implicit_none
   declaration : {is : List Item} → IsOf Integer (integers is)
+  shared : {b : List ℕ} {is : List Item} → IsOf Common (common b is)
   assigned : {a : Act} → IsOf Assign (simple a)
   called : {a : Act} → IsOf Call (simple a)
   guarded : {c : Test} {a : Act} → IsOf LogicalIf (logical c a)

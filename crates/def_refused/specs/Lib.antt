@@ -9,3 +9,4 @@ pub mod TreeFaults
 pub mod Prefixes
 pub mod TextFaults
 pub mod Refusals
+pub mod Scanned

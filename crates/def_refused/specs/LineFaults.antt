@@ -1,35 +1,12 @@
 -- LineFaults: what is wrong with a line of a text.
-use Rattle.std.specs.Prelude.{◌≡◌, ℕ, ◌+◌, ◌≤◌, Bool, true, false, ◌==◌, ◌||◌, List, [], ◌∷◌, Option, Some, None, option_map, if◌then◌else◌}
+use Rattle.std.specs.Prelude.{◌≡◌, ℕ, ◌+◌, ◌≤◌, Bool, true, false, ◌==◌, ◌||◌, List, [], ◌∷◌, Option, Some, None, option_map}
 use Rattle.std.specs.List.{list_all}
 use Rattle.adj_tree.specs.declared.fault.Refusal.{Refusal}
 use Rattle.def_text.specs.Char.{blank, nought, is_between, is_allowed}
 use Rattle.def_text.specs.Limits.{Limits}
-use Rattle.def_text.specs.Line.{cut_lines, without_cr, next_number, is_data, column, is_directive, is_comment, is_continuation, body, label_of, operand_of}
+use Rattle.def_text.specs.Line.{column, body, label_of, operand_of}
+use Rattle.def_text.specs.Forming.{Line, Sort, directive, comment, continuation, initial, sort}
 use Rattle.def_refused.specs.First.{code_at, limit_at}
-
--- a line with its number
-pub record Line : Type 0 where
-  pub number : ℕ
-  pub characters : List ℕ
-
--- the lines from line n on, up to `$DATA` or the end
-abbrev pub numbered : ℕ → List (List ℕ) → List Line
-numbered n [] = []
-numbered n (l ∷ ls) = if is_data (without_cr l) then [] else record { number = n; characters = without_cr l } ∷ numbered (next_number n) ls
-
--- the lines of a text
-abbrev pub lines_in : List ℕ → List Line
-lines_in bytes = numbered 1 (cut_lines bytes)
-
--- what a line is: the first that fits
-pub data Sort : Type 0 where
-  directive : Sort
-  comment : Sort
-  continuation : Sort
-  initial : Sort
-
-abbrev pub sort : List ℕ → Sort
-sort l = if is_directive l then directive else (if is_comment l then comment else (if is_continuation l then continuation else initial))
 
 -- whether the next of these lines that is no comment is there and is an initial line
 abbrev pub goes_before : Sort → Bool → Bool

@@ -1,7 +1,7 @@
 -- Refusals: an answer of the reader is a refusal exactly where there is a fault, and then it is the first one.
 use Rattle.std.specs.Prelude.{◌≡◌, ℕ, List, [], Ok, Err}
-use Rattle.adj_tree.specs.Code.{Procedure}
 use Rattle.adj_tree.specs.declared.fault.Refusal.{Refusal}
+use Rattle.adj_tree.specs.Common.{Shared}
 use Rattle.def_text.specs.Limits.{Limits}
 use Rattle.def_text.specs.Lined.{Lines, lines_of}
 use Rattle.def_text.specs.Stated.{all_stated}
@@ -9,7 +9,8 @@ use Rattle.def_text.specs.declared.mode.Mode.{Mode}
 use Rattle.def_text.specs.declared.stated.Stated.{Stated}
 use Rattle.adj_parse.specs.Trees.{trees_of}
 use Rattle.def_refused.specs.First.{AreFaultless, IsFirst, IsAnswer}
-use Rattle.def_refused.specs.LineFaults.{lines_in, LineFault}
+use Rattle.def_text.specs.Forming.{lines_in}
+use Rattle.def_refused.specs.LineFaults.{LineFault}
 use Rattle.def_refused.specs.Prefixes.{ReadsUpTo}
 use Rattle.def_refused.specs.StatementFaults.{StatementFault}
 use Rattle.def_refused.specs.TreeFaults.{TreeFault}
@@ -42,7 +43,7 @@ abbrev pub TreesRefused : Type 0
 TreesRefused = (mode : Mode) (stated : List Stated) (r : Refusal) → IsFirst (TreeFault mode) [] stated r → trees_of mode stated ≡ Err r
 
 abbrev pub TreesAccepted : Type 0
-TreesAccepted = (mode : Mode) (stated : List Stated) → AreFaultless (TreeFault mode) [] stated → (units : List Procedure) × (trees_of mode stated ≡ Ok units)
+TreesAccepted = (mode : Mode) (stated : List Stated) → AreFaultless (TreeFault mode) [] stated → (units : List Shared) × (trees_of mode stated ≡ Ok units)
 
 -- and such a text reads up to the refused statement
 abbrev pub TreesReadUpTo : Type 0

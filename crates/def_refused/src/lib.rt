@@ -1,7 +1,7 @@
 //! First faults of a text by what they are: definitions and laws, no code.
 //!
 //! `specs/First` says what the first fault of some places is, and the other modules of `specs/` what each code of a refusal is, as a property of
-//! a line, of a statement, or of a statement and those before it. The laws say that the reader's answers are by them. The crate stands on the reader of texts.
+//! a line, of a statement, or of a statement and those before it. The laws say that the reader's answers are by them. The crate stands on the reader of texts and on what its blocks are lowered to (`def_common`).
 #![tactic(auto)]
 
 ghost use Rattle.def_refused.specs.Ends.{BlocksEnd};

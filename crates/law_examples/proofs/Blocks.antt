@@ -36,4 +36,4 @@ pub labels : Labels
 labels = (refl, refl, refl, refl, refl, refl, refl, refl)
 
 pub keywords : Keywords
-keywords = (refl, refl, refl, refl, refl, refl, refl, refl, refl, refl, refl, refl, refl, refl, refl, refl, refl, refl, refl, refl)
+keywords = (refl, refl, refl, refl, refl, refl, refl, refl, refl, refl, refl, refl, refl, refl, refl, refl, refl, refl, refl, refl, refl)

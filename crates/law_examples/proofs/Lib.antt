@@ -13,6 +13,7 @@ pub mod Depths
 pub mod Printed
 pub mod ReadingCases
 pub mod RunCases
+pub mod Sharing
 pub mod Words
 pub mod Schedules
 pub mod ReversalRefusing

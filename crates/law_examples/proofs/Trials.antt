@@ -12,7 +12,7 @@ use Rattle.law_examples.specs.Sources.{squared, fourth, square, cube, difference
 use Rattle.law_examples.proofs.Trying.{tried, adjoint_in, differ, stuck, left, replays}
 
 -- words of different numbers
-differ_words : (m n : ℕ) → (m == n) ≡ false → pos m ≡ pos n → ⊥
+pub differ_words : (m n : ℕ) → (m == n) ≡ false → pos m ≡ pos n → ⊥
 differ_words m n d h = let e : m ≡ n = cc in let p : true ≡ false = sym (subst (λ k. (m == k) ≡ true) e (nat_refl m)) ∙ d in cc
 
 -- ---- with a change

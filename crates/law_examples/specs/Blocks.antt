@@ -6,7 +6,7 @@ use Rattle.adj_tree.specs.declared.stmt.Mark.TheVariants.{Plain}
 use Rattle.def_text.specs.Data.{data_of}
 use Rattle.def_text.specs.Lined.{directive_before}
 use Rattle.def_text.specs.Stated.{keyword_len, IsCovered}
-use Rattle.def_text.specs.declared.stated.Kind.TheVariants.{Do, BlockIf, LogicalIf, Assign, Continue, Return, End, EndIf, EndDo, Else, ImplicitNone, ElseIf, DoWhile, Subroutine, Integer, Call}
+use Rattle.def_text.specs.declared.stated.Kind.TheVariants.{Do, BlockIf, LogicalIf, Assign, Continue, Return, End, EndIf, EndDo, Else, ImplicitNone, ElseIf, DoWhile, Subroutine, Integer, Call, Common}
 use Rattle.def_text.specs.declared.mode.Mode.TheVariants.{Source}
 use Rattle.law_examples.specs.Texts.{text, return_code, use_of, literal, one, name_a, name_i, name_n, name_p, name_x, name_y, bare, above, Is}
 
@@ -128,7 +128,7 @@ Labels =
 abbrev pub Keywords : Type 0
 Keywords =
     (keyword_len Do [] ≡ 2) × (keyword_len BlockIf [] ≡ 2) × (keyword_len LogicalIf [] ≡ 2) × (keyword_len Assign [] ≡ 0) × (keyword_len Continue [] ≡ 8) × (keyword_len Return [] ≡ 6) × (keyword_len End [] ≡ 3) × (keyword_len EndIf [] ≡ 5)
-    × (keyword_len EndDo [] ≡ 5) × (keyword_len Else [] ≡ 4) × (keyword_len ImplicitNone [] ≡ 12) × (keyword_len ElseIf [] ≡ 6) × (keyword_len DoWhile [] ≡ 7) × (keyword_len Subroutine [] ≡ 10) × (keyword_len Call [] ≡ 4)
+    × (keyword_len EndDo [] ≡ 5) × (keyword_len Else [] ≡ 4) × (keyword_len ImplicitNone [] ≡ 12) × (keyword_len ElseIf [] ≡ 6) × (keyword_len DoWhile [] ≡ 7) × (keyword_len Subroutine [] ≡ 10) × (keyword_len Call [] ≡ 4) × (keyword_len Common [] ≡ 6)
     × (keyword_len Integer (codes "INTEGERX") ≡ 7) × (keyword_len Integer (codes "INTEGER*8X") ≡ 9)
     × IsCovered (record { line = 1; label = 0; mark = Plain; mark_line = 0; kind = Else; text = codes "ELSE"; tokens = [] })
     × IsCovered (record { line = 1; label = 0; mark = Plain; mark_line = 0; kind = BlockIf; text = codes "IFTHEN"; tokens = [] })

@@ -8,7 +8,7 @@ use Rattle.adj_parse_expression.specs.Judged.{depth, test_depth, judged, judged_
 use Rattle.adj_parse_expression.specs.declared.flaw.Flaw.TheVariants.{Large, Deep, Exponent}
 use Rattle.adj_parse_statement.specs.Phrase.{Deed, assigns, calls, Bounds, plainly, declares, does, guards, repeats, goes_while, opens, turns}
 use Rattle.adj_parse_statement.specs.Said.{any_deep, list_deep, deed_deep, step_deep, bounds_deep, phrase_deep}
-use Rattle.law_examples.specs.Texts.{use_of, literal, name_x, name_i}
+use Rattle.law_examples.specs.Texts.{use_of, name_x, name_i}
 
 -- X, of depth 1, and -X, of depth 2
 abbrev pub flat : Syntax

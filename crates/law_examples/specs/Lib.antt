@@ -12,6 +12,7 @@ pub mod Depths
 pub mod Printed
 pub mod Reading
 pub mod Runs
+pub mod Sharing
 pub mod Words
 pub mod Schedules
 pub mod ReversalSources

@@ -259,7 +259,7 @@ word z = record { shape = scalar; cells = z ∷ [] }
 abbrev pub three_words : ℤ → ℤ → ℤ → Slot ℤ
 three_words a b c = record { shape = record { rows = 3; cols = 0 }; cells = a ∷ b ∷ c ∷ [] }
 
-abbrev held_after : Outcome (Output ℤ) → List (List ℤ)
+abbrev pub held_after : Outcome (Output ℤ) → List (List ℤ)
 held_after (Done output used) = cells_of output.slots
 held_after (Trapped t line w) = []
 held_after (More w) = []

@@ -5,7 +5,7 @@ use Rattle.adj_tree.specs.declared.fault.Refusal.{Refusal}
 use Rattle.def_text.specs.Char.{line_feed}
 use Rattle.def_text.specs.declared.mode.Mode.{Mode}
 use Rattle.def_text.specs.declared.mode.Mode.TheVariants.{Source}
-use Rattle.adj_parse.specs.Trees.{program_of}
+use Rattle.def_refused.specs.TextFaults.{program_of}
 
 -- ---- how texts and programs are written here
 

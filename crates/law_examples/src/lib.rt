@@ -16,7 +16,7 @@ pub use reading::{dummy_cases, read_cases, renamed_cases, written_cases};
 pub use reversals::{
     worked_costs, worked_numbers, worked_reversals, worked_rows, wrong_costs, wrong_reversals,
 };
-pub use runs::{run_cases, schedule_cases, word_cases};
+pub use runs::{run_cases, schedule_cases, sharing_cases, word_cases};
 pub use texts::{
     block_cases, depth_cases, expression_cases, first_faults, limit_cases, line_refusals,
     printed_cases, statement_cases, statement_refusals, tree_refusals,

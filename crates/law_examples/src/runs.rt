@@ -1,6 +1,7 @@
 //! Words, schedules and small runs.
 
 ghost use Rattle.law_examples.specs.Runs.{ControlPopped, Difference, Shapes, Logs, Fitting, UnlinedEvents, UnlinedEnds};
+ghost use Rattle.law_examples.specs.Sharing.{MembersInOrder, TurnedIsRefused};
 ghost use Rattle.law_examples.specs.Schedules.{BinomialNumbers, Splits, WholeSchedules, Costs};
 ghost use Rattle.law_examples.specs.Words.{Wrapped, Quotients, TripCounts, Products};
 
@@ -29,4 +30,10 @@ pub fn run_cases()
     ensures fitting { Fitting }
     ensures unlined_events { UnlinedEvents }
     ensures unlined_ends { UnlinedEnds }
+{}
+
+/// Two members of a block that a CALL passes: in order, the runs are those with blocks; the other way round, the definitions tell them apart.
+pub fn sharing_cases()
+    ensures in_order { MembersInOrder }
+    ensures turned { TurnedIsRefused }
 {}

@@ -3,10 +3,11 @@ use Rattle.std.proofs.Common.{◌≡◌, ◌≤◌, ◌<◌, ◌⊎◌, inl, inr
 use Rattle.std.proofs.Math.Dec.{eqb-suc-zero}
 use Rattle.std.proofs.lemmas.Bool.{and_parts}
 use Rattle.std.specs.Prelude.{◌&&◌, ◌==◌, not, nat_le}
-use Rattle.adj_tree.specs.Code.{Mark, Procedure}
+use Rattle.adj_tree.specs.Code.{Mark}
 use Rattle.adj_tree.specs.View.{mark_of}
 use Rattle.adj_tree.specs.declared.fault.Refusal.{Refusal}
 use Rattle.adj_tree.specs.Size.{IsNested}
+use Rattle.adj_tree.specs.Common.{Shared}
 use Rattle.adj_parse_expression.specs.declared.flaw.Flaw.{Flaw}
 use Rattle.def_text.specs.Form as forms
 use Rattle.def_text.specs.Form.{Form, Statement, ReadsForm}
@@ -26,7 +27,7 @@ use Rattle.adj_parse.proofs.Truths.{and_false}
 use Rattle.adj_parse_statement.specs.Said.{said}
 use Rattle.adj_parse.proofs.Followed.{not_both, units_done}
 use Rattle.law_limits.specs.Kept.{shallow}
-use Rattle.law_limits.proofs.Keeping.{form_keeps, all_keep}
+use Rattle.law_limits.proofs.Keeping.{units_in, form_keeps, all_keep}
 use Rattle.law_limits.proofs.FittingTerms.{fitting}
 use Rattle.law_limits.proofs.SaidForms.{Laws, said_right}
 use Rattle.law_limits.proofs.Nesting.{run_nested, too_nested}
@@ -42,6 +43,7 @@ pub same_kind : {A : Type 0} (F : Kind → A) → F Call ≡ F Assign → {mark 
 same_kind F e (forms.ReadsForm.heading d) = refl
 same_kind F e forms.ReadsForm.implicit = refl
 same_kind F e (forms.ReadsForm.declaration d) = refl
+same_kind F e (forms.ReadsForm.shared d) = refl
 same_kind F e (forms.ReadsForm.assigned d) = refl
 same_kind F e (forms.ReadsForm.calls d) = e
 same_kind F e (forms.ReadsForm.guarded d g) = refl
@@ -61,6 +63,7 @@ led_form : {mark : Mark} {kind : Kind} {lexemes : List Lexeme} {f : Form} → Re
 led_form (forms.ReadsForm.heading d) = refl
 led_form forms.ReadsForm.implicit = refl
 led_form (forms.ReadsForm.declaration d) = refl
+led_form (forms.ReadsForm.shared d) = refl
 led_form (forms.ReadsForm.assigned d) = refl
 led_form (forms.ReadsForm.calls d) = refl
 led_form (forms.ReadsForm.guarded d g) = refl
@@ -76,7 +79,7 @@ led_form forms.ReadsForm.returned = refl
 led_form forms.ReadsForm.ended = refl
 
 -- behind the last statement no unit is open, so it is END
-closes_end : (done : List Procedure) (current : Option Current) (n l : ℕ) (f : Form) → stands (kind_of f) l current ≡ true → (ps : List Procedure) → units_of (followed done current n l f).done (followed done current n l f).current ≡ Some ps → is_end (kind_of f) ≡ true
+closes_end : (done : List Shared) (current : Option Current) (n l : ℕ) (f : Form) → stands (kind_of f) l current ≡ true → (ps : List Shared) → units_of (followed done current n l f).done (followed done current n l f).current ≡ Some ps → is_end (kind_of f) ≡ true
 closes_end done (Some c) n l forms.ends s ps h = refl
 closes_end done (Some c) n l f s ps h = absurd cc
 closes_end done None n l (forms.subroutine x dummies) s ps h = absurd cc
@@ -94,7 +97,7 @@ goes : (s : State) (t : Stated) (left : ℕ) (found : Option (Result Form Flaw))
 goes s t left found f e led place breaks nested = rw (e, led, place, breaks, and_false (is_heading t.kind), nested) (room_or f (s.room == 0) t.line)
 
 module _ (laws : Laws) where
-  pub chain_goes : {ts : List Stated} {ss : List Statement} → ReadsAll ts ss → (s : State) (ps : List Procedure) → run s.units ss ≡ Some ps → IsNested 45 ps → all_keep (shallow 120) ss ≡ true → all_keep fitting ss ≡ true → Goes ps (trees_from Run s ts)
+  pub chain_goes : {ts : List Stated} {ss : List Statement} → ReadsAll ts ss → (s : State) (ps : List Shared) → run s.units ss ≡ Some ps → IsNested 45 (units_in ps) → all_keep (shallow 120) ss ≡ true → all_keep fitting ss ≡ true → Goes ps (trees_from Run s ts)
   unfolding trees_from follow run
   chain_goes texts.ReadsAll.none s ps h n deep fit = inl (ap Ok (units_done s.units.done s.units.current ps h))
   chain_goes (texts.ReadsAll.more {s = t} {ss = ts} {f = f} {ts = ss} d rest) s ps h n deep fit =

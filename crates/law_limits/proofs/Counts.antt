@@ -1,12 +1,14 @@
 -- A program has at most two statements for each statement of which it is read.
 use Rattle.std.proofs.Common.{◌≤◌, ℕ, ◌+◌, Bool, List, [], ◌∷◌, arith}
-use Rattle.adj_tree.specs.Code.{Act, Code, Declaration, Procedure}
+use Rattle.adj_tree.specs.Code.{Act, Code, Declaration}
+use Rattle.adj_tree.specs.Common.{Common, Shared}
 use Rattle.def_text.specs.Block as blocks
 use Rattle.def_text.specs.Block.{ReadsBody, ReadsAct, ReadsElse}
-use Rattle.def_text.specs.Form.{Form, subroutine, implicit_none, integers, simple, logical, opens_do, opens_while, end_do, go_on, opens_if, otherwise, otherwise_if, end_if, leaves, ends, Statement, at}
+use Rattle.def_text.specs.Form.{Form, subroutine, implicit_none, integers, common, simple, logical, opens_do, opens_while, end_do, go_on, opens_if, otherwise, otherwise_if, end_if, leaves, ends, Statement, at}
 use Rattle.def_text.specs.Unit as units
 use Rattle.def_text.specs.Unit.{ReadsImplicit, ReadsDeclarations, ReadsEnd, ReadsUnit, ReadsUnits}
 use Rattle.law_limits.specs.Kept.{acts_in, acts_in_code, statements_in}
+use Rattle.law_limits.proofs.Keeping.{units_in}
 
 -- the statements that are one deed each
 abbrev pub form_acts : Form → ℕ
@@ -19,6 +21,7 @@ form_acts (otherwise_if c) = 1
 form_acts (subroutine x dummies) = 0
 form_acts implicit_none = 0
 form_acts (integers is) = 0
+form_acts (common b is) = 0
 form_acts end_do = 0
 form_acts go_on = 0
 form_acts otherwise = 0
@@ -54,17 +57,18 @@ implicit : {ts rest : List Statement} {b : Bool} → ReadsImplicit ts rest b →
 implicit units.ReadsImplicit.absent = omega arith
 implicit units.ReadsImplicit.present = omega arith
 
-declarations : {ts rest : List Statement} {ds : List Declaration} → ReadsDeclarations ts rest ds → all_acts rest ≤ all_acts ts
+declarations : {ts rest : List Statement} {ds : List Declaration} {cs : List Common} → ReadsDeclarations ts rest ds cs → all_acts rest ≤ all_acts ts
 declarations units.ReadsDeclarations.none = omega arith
 declarations (units.ReadsDeclarations.more d e) = let r = declarations d in omega arith
+declarations (units.ReadsDeclarations.shared d) = let r = declarations d in omega arith
 
 ending : {ts rest : List Statement} → ReadsEnd ts rest → all_acts rest ≤ all_acts ts
 ending units.ReadsEnd.ended = omega arith
 ending units.ReadsEnd.returned = omega arith
 
-unit : {ts rest : List Statement} {p : Procedure} → ReadsUnit ts rest p → acts_in_code p.body + all_acts rest ≤ all_acts ts
+unit : {ts rest : List Statement} {s : Shared} → ReadsUnit ts rest s → acts_in_code s.unit.body + all_acts rest ≤ all_acts ts
 unit (units.ReadsUnit.unit i d b e) = let p = implicit i in let q = declarations d in let r = body b in let s = ending e in omega arith
 
-pub units_count : {ts : List Statement} {ps : List Procedure} → ReadsUnits ts ps → statements_in ps ≤ all_acts ts
+pub units_count : {ts : List Statement} {ss : List Shared} → ReadsUnits ts ss → statements_in (units_in ss) ≤ all_acts ts
 units_count units.ReadsUnits.none = omega arith
 units_count (units.ReadsUnits.more u us) = let p = unit u in let q = units_count us in omega arith

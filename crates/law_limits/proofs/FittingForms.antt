@@ -6,7 +6,7 @@ use Rattle.std.proofs.lemmas.Bool.{and_parts, or_from}
 use Rattle.adj_tree.specs.Code.{plain, Term, Terms, Mark, Act, assign}
 use Rattle.def_text.specs.Char.{number_of}
 use Rattle.def_text.specs.Condition.{test}
-use Rattle.def_text.specs.Form.{Form, integers, simple, logical, opens_do, opens_while, opens_if, otherwise_if}
+use Rattle.def_text.specs.Form.{Form, integers, common, simple, logical, opens_do, opens_while, opens_if, otherwise_if}
 use Rattle.def_text.specs.Grammar.{Syntax, Arguments, with_both, tree}
 use Rattle.def_text.specs.Statement.{called, Range}
 use Rattle.def_text.specs.Lexeme.{Lexeme}
@@ -79,6 +79,7 @@ pub form_small : {kind : Kind} {ws : List Lexeme} {p : Phrase} → Says kind ws 
 form_small (phrases.Says.heading s) mark f e h = refl
 form_small phrases.Says.implicit mark f e h = refl
 form_small (phrases.Says.declaration {is = is} s) mark f e h = let q : integers (map item is) ≡ f = cc in items_small is (ap (form_keeps fitting) q ∙ h)
+form_small (phrases.Says.shared (phrases.block {b = b} {is = is} s l)) mark f e h = let q : common b (map item is) ≡ f = cc in items_small is (ap (form_keeps fitting) q ∙ h)
 form_small (phrases.Says.assigned {d = d} s) mark f e h = let r = map_some simple (act d) f e in deed_small d r.0 r.1 (ap (form_keeps fitting) r.2 ∙ h)
 form_small (phrases.Says.called {d = d} s) mark f e h = let r = map_some simple (act d) f e in deed_small d r.0 r.1 (ap (form_keeps fitting) r.2 ∙ h)
 form_small (phrases.Says.guarded {c = c} {d = d} g s) mark f e h =

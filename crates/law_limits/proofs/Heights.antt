@@ -4,7 +4,7 @@ use Rattle.std.specs.Prelude.{if◌then◌else◌}
 use Rattle.adj_tree.specs.Code.{Test, Act, Code, choose, stop, step}
 use Rattle.adj_tree.specs.Size.{act_depth, code_depth}
 use Rattle.adj_tree.specs.Listed.{code_listed}
-use Rattle.def_text.specs.Form.{Form, subroutine, implicit_none, integers, simple, logical, opens_do, opens_while, end_do, go_on, opens_if, otherwise, otherwise_if, end_if, leaves, ends}
+use Rattle.def_text.specs.Form.{Form, subroutine, implicit_none, integers, common, simple, logical, opens_do, opens_while, end_do, go_on, opens_if, otherwise, otherwise_if, end_if, leaves, ends}
 use Rattle.adj_parse.specs.Blocks.{Acts, Part, of_loop, of_while, of_if, of_else, of_chain, Block, Nest, whole, ended, close, close_while, begin, turned, turn, acted, is_chain, is_labelled}
 use Rattle.adj_parse.specs.Order.{is_first, innermost_is, suits}
 use Rattle.adj_parse.proofs.Machine.{kind_of}
@@ -100,6 +100,7 @@ opening (otherwise_if c) = 1
 opening (subroutine x dummies) = 0
 opening implicit_none = 0
 opening (integers is) = 0
+opening (common b is) = 0
 opening end_do = 0
 opening go_on = 0
 opening otherwise = 0
@@ -146,5 +147,6 @@ acted_height nest n l end_if h =
 acted_height nest n l (subroutine x dummies) h = no_more nest.blocks (acts_depth nest.acts)
 acted_height nest n l implicit_none h = no_more nest.blocks (acts_depth nest.acts)
 acted_height nest n l (integers is) h = no_more nest.blocks (acts_depth nest.acts)
+acted_height nest n l (common b is) h = no_more nest.blocks (acts_depth nest.acts)
 acted_height nest n l leaves h = no_more nest.blocks (acts_depth nest.acts)
 acted_height nest n l ends h = no_more nest.blocks (acts_depth nest.acts)

@@ -282,7 +282,7 @@ in_either x xs ys zs us f g h =
       | inr e ↦ has-append x zs us ∙ or_right (has_name x zs) (has_name x us) (g e)
     ]
 
-local_short : (all : List Procedure) → length all ≤ 402000 → (v : Procedure) → IsCovered v → (j : ℕ) → suc j < 10 ^ 10 → length (fresh (wanted_local j) (taken_in all v ++ local_names (taken_in all v) j)) ≤ 31
+local_short : (all : List Procedure) → length all ≤ 402000 → (v : Procedure) → IsCovered v → (j : ℕ) → suc j < 10 ^ 10 → length (fresh (wanted_local j) (taken_in all v ++ local_names (taken_in all v) j)) ≤ 40
 local_short all few v c j lt =
     let locals = local_names (taken_in all v) j in
     let units = map unit_name all ++ reserved in
@@ -315,7 +315,7 @@ each_short n [] h = tt
 each_short n (x ∷ xs) h = (h.0, each_short n xs h.1)
 
 abbrev Short : Name → Type 0
-Short x = length x ≤ 31
+Short x = length x ≤ 40
 
 pub kernel_variables_short : KernelVariablesAreShort
 kernel_variables_short ps accepted small short counts =
@@ -324,16 +324,16 @@ kernel_variables_short ps accepted small short counts =
     let marked = small.few_marked in
     let count = from_count (names_of_source ps) ps in
     let units : length all ≤ 402000 = omega arith in
-    let named = from_named Short (names_of_source ps) ps (units_more (λ u. AreShort 31 (variables u)) (λ u. Each Short (variables u)) (λ u h. short_each 31 (variables u) h) ps short) in
+    let named = from_named Short (names_of_source ps) ps (units_more (λ u. AreShort 40 (variables u)) (λ u. Each Short (variables u)) (λ u h. short_each 40 (variables u) h) ps short) in
     go units all named (from_covered (names_of_source ps) ps small.few_variables) (good ℤ ps (sound_is_source ps accepted.written accepted.sound ℤ)) counts
   where
-    go : length (stepped_program ps) ≤ 402000 → (vs : List Procedure) → EachUnit (AllNames Short) vs → EachUnit IsCovered vs → EachUnit (whole.IsGood ℤ ps (sound_is_source ps accepted.written accepted.sound ℤ)) vs → EachUnit (λ v. locals_count (stepped_program ps) v < 10 ^ 10) vs → EachUnit (λ v. AreShort 31 (variables v)) (map (lowered_unit (stepped_program ps)) vs)
+    go : length (stepped_program ps) ≤ 402000 → (vs : List Procedure) → EachUnit (AllNames Short) vs → EachUnit IsCovered vs → EachUnit (whole.IsGood ℤ ps (sound_is_source ps accepted.written accepted.sound ℤ)) vs → EachUnit (λ v. locals_count (stepped_program ps) v < 10 ^ 10) vs → EachUnit (λ v. AreShort 40 (variables v)) (map (lowered_unit (stepped_program ps)) vs)
     go units [] n c g k = tt
     go units (v ∷ vs) n c g k =
         let all = stepped_program ps in
         let most : locals_count all v < 10 ^ 10 = k.0 in
         let w = lowered_named Short (IsFitCall all v) all v n.0 g.0.1.0 (λ j lt. local_short all units v c.0 j (omega arith)) in
-        (each_short 31 (variables (lowered_unit all v)) (all_variables Short (lowered_unit all v) w), go units vs n.1 c.1 g.1 k.1)
+        (each_short 40 (variables (lowered_unit all v)) (all_variables Short (lowered_unit all v) w), go units vs n.1 c.1 g.1 k.1)
 
 -- ---- locals are variables
 

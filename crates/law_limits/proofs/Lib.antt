@@ -18,7 +18,6 @@ pub mod Nesting
 pub mod Chain
 pub mod KeptReads
 pub mod Counts
-pub mod SourceKept
 pub mod FreshLengths
 pub mod StepLengths
 pub mod KernelLengths
@@ -33,3 +32,8 @@ pub mod StandingShort
 pub mod ShortVariables
 pub mod ShortEmitted
 pub mod Runnable
+pub mod Lowered
+pub mod LoweredVariables
+pub mod LoweredItems
+pub mod LoweredNames
+pub mod SourceKept

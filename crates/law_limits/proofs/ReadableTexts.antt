@@ -17,7 +17,7 @@ nested_most true = omega arith
 
 pub emitted_shallow : SourceIsKept → (schedules : Bool) → EmittedIsShallowWith schedules
 emitted_shallow source sb bytes ps h m head vars outvars =
-    let kept = (source bytes ps h).kept in
+    let kept = source bytes ps h in
     let two : 2 ≤ 100 = omega arith in
     let deep : 103 < 120 = omega arith in
     record {

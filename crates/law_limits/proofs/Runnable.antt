@@ -12,8 +12,7 @@ use Rattle.def_names.specs.CallFaults.{faults_of_call}
 use Rattle.def_names.specs.Check.{IsSound}
 use Rattle.def_names.proofs.Sound.{sound_has_none}
 use Rattle.def_sweep.specs.Declared.{unit_at}
-use Rattle.def_sweep.specs.Marking.{ProgramMarks, SplitsNothing}
-use Rattle.def_sweep.specs.Names.{adjoint_name}
+use Rattle.def_sweep.specs.Marking.{ProgramMarks}
 use Rattle.def_sweep.specs.Program.{emitted_units_with, emitted_for_with, emitted_program_with}
 use Rattle.def_kernel.specs.Kernel.{locals_count, lowered_unit, EachUnit}
 use Rattle.def_kernel.specs.Stepped.{marked_in_act, marked_in, stepped_program, kernel_of}
@@ -22,6 +21,8 @@ use Rattle.law_emitted.specs.Checked.{IsChecked}
 use Rattle.law_emitted.proofs.Lists.{Each, none_each}
 use Rattle.def_names.proofs.Faultless.{none_front, none_behind}
 use Rattle.law_emitted.specs.Shadowed.{AllHaveShadows}
+use Rattle.law_emitted.specs.Splits.{AllMaySplit}
+use Rattle.law_emitted.proofs.Makings.{Making, its_name}
 use Rattle.law_emitted.specs.Emitted.{AreShallow}
 use Rattle.law_emitted.proofs.Sources.{each_name, of_each, UnitSound, all_named}
 use Rattle.law_emitted.proofs.NameFaults.{NamesSound, all_names_sound}
@@ -29,7 +30,7 @@ use Rattle.law_emitted.proofs.UnitFaults.{each_emitted}
 use Rattle.law_emitted.proofs.Programs.{marked_written}
 use Rattle.law_emitted.proofs.SoundPrograms.{marked_sound}
 use Rattle.law_emitted.proofs.Kernels.{kernel_checked}
-use Rattle.adj_parse.specs.Trees.{program_of}
+use Rattle.def_refused.specs.TextFaults.{program_of}
 use Rattle.law_limits.specs.Rule.{procedure_keeps, keeps}
 use Rattle.law_limits.specs.Kept.{short_names, acts_in, acts_in_code, statements_in}
 use Rattle.law_limits.specs.Reading.{KeptReads, IsSource, SourceIsKept}
@@ -43,30 +44,26 @@ use Rattle.law_limits.proofs.Measures.{program_low}
 use Rattle.law_limits.proofs.ReadableTexts.{emitted_shallow}
 use Rattle.law_limits.proofs.StandingShort.{HasShort, unit_short}
 use Rattle.law_limits.proofs.ShortVariables.{variable_short, unit_passes}
-use Rattle.law_limits.proofs.UnitNames.{adjoint_short}
-use Rattle.law_limits.proofs.ShortEmitted.{IsModest, HasShortNames, carried_short, adjoints_short}
+use Rattle.law_limits.proofs.UnitNames.{made_short_name}
+use Rattle.law_limits.proofs.ShortEmitted.{IsModest, HasShortNames, carried_short, all_made_short}
 
 -- ---- the source is small
 
-units_hold : (us : List Procedure) → keeps (short_names 31) us ≡ true → EachUnit (HasShort 31) us
+units_hold : (us : List Procedure) → keeps (short_names 40) us ≡ true → EachUnit (HasShort 40) us
 units_hold [] h = tt
-units_hold (u ∷ us) h = let p = and_parts (procedure_keeps (short_names 31) u) (keeps (short_names 31) us) h in (unit_short 31 u p.0, units_hold us p.1)
+units_hold (u ∷ us) h = let p = and_parts (procedure_keeps (short_names 40) u) (keeps (short_names 40) us) h in (unit_short 40 u p.0, units_hold us p.1)
 
-units_named : (us : List Procedure) → EachUnit (HasShort 31) us → EachUnit (λ u. length u.name ≤ 31) us
-units_named [] h = tt
-units_named (u ∷ us) h = let s = h.0 in (s.name, units_named us h.1)
-
-all_short : (xs : List (List ℕ)) → Each (λ x. length x ≤ 31) xs → AreShort 31 xs
+all_short : (xs : List (List ℕ)) → Each (λ x. length x ≤ 40) xs → AreShort 40 xs
 all_short [] h = tt
 all_short (x ∷ xs) h = (h.0, all_short xs h.1)
 
-short_all : (xs : List (List ℕ)) → AreShort 31 xs → Each (λ x. length x ≤ 31) xs
+short_all : (xs : List (List ℕ)) → AreShort 40 xs → Each (λ x. length x ≤ 40) xs
 short_all [] h = tt
 short_all (x ∷ xs) h = (h.0, short_all xs h.1)
 
-units_variables : (us : List Procedure) → EachUnit (HasShort 31) us → EachUnit (λ u. AreShort 31 (variables u)) us
+units_variables : (us : List Procedure) → EachUnit (HasShort 40) us → EachUnit (λ u. AreShort 40 (variables u)) us
 units_variables [] h = tt
-units_variables (u ∷ us) h = (all_short (variables u) (each_name (λ x. length x ≤ 31) (variables u) (variable_short 31 u h.0)), units_variables us h.1)
+units_variables (u ∷ us) h = (all_short (variables u) (each_name (λ x. length x ≤ 40) (variables u) (variable_short 40 u h.0)), units_variables us h.1)
 
 none_passed : (ps : List (At (List ℕ))) → passed_by 200 ps ≡ [] → length ps ≡ 0
 none_passed [] h = refl
@@ -79,7 +76,7 @@ names_length : (ps : List (At (List ℕ))) → length (map (λ (p : At (List ℕ
 names_length [] = refl
 names_length (p ∷ ps) = let rest = names_length ps in omega arith
 
-few_variables : (us ps : List Procedure) → Each (λ u. faults_of_names source_rules ps u ≡ []) us → EachUnit (λ u. length (variables u) ≤ 200) us
+pub few_variables : (us ps : List Procedure) → Each (λ u. faults_of_names source_rules ps u ≡ []) us → EachUnit (λ u. length (variables u) ≤ 200) us
 few_variables [] ps h = tt
 few_variables (u ∷ us) ps h =
     let a = none_behind (undeclared u) _ h.0 in
@@ -117,7 +114,7 @@ source_small ps s sound =
     let none = sound_has_none source_rules ps sound in
     record {
       few_units = s.few_units;
-      names = units_named ps (units_hold ps s.kept.names);
+      names = s.units;
       few_variables = few_variables ps ps (none_each (faults_of_names source_rules ps) ps none.names);
       few_marked = omega arith;
     }
@@ -128,10 +125,10 @@ few_locals : (all vs : List Procedure) → EachUnit (λ v. length (variables v) 
 few_locals all [] h = tt
 few_locals all (v ∷ vs) h = let l = locals_few all v in let k : length (variables (lowered_unit all v)) ≤ 1073741823 = h.0 in (omega arith, few_locals all vs h.1)
 
-modest : (ks us : List Procedure) → Each (λ u. UnitSound ks u × NamesSound ks u) us → EachUnit (λ u. AreShort 31 (variables u)) us → EachUnit (λ u. length (variables u) ≤ 1073741823) us → EachUnit (λ u. length u.name ≤ 46) us → IsNested 31 us → AreShallow 100 us → Each (IsModest ks) us
+modest : (ks us : List Procedure) → Each (λ u. UnitSound ks u × NamesSound ks u) us → EachUnit (λ u. AreShort 40 (variables u)) us → EachUnit (λ u. length (variables u) ≤ 1073741823) us → EachUnit (λ u. length u.name ≤ 46) us → IsNested 31 us → AreShallow 100 us → Each (IsModest ks) us
 modest ks [] s a k n d e = tt
 modest ks (u ∷ us) s a k n d e = (
-  record { sound = s.0.0; names = s.0.1; short = λ x h. of_each (λ x. length x ≤ 31) (variables u) (short_all (variables u) a.0) x h; few = k.0; named = n.0; nested = d.0; shallow = e.0 },
+  record { sound = s.0.0; names = s.0.1; short = λ x h. of_each (λ x. length x ≤ 40) (variables u) (short_all (variables u) a.0) x h; few = k.0; named = n.0; nested = d.0; shallow = e.0 },
   modest ks us s.1 a.1 k.1 n.1 d.1 e.1,
 )
 
@@ -139,20 +136,19 @@ modest ks (u ∷ us) s a k n d e = (
 pub record IsModestKernel (ks : List Procedure) : Type 0 where
   pub few_units : length ks ≤ 402000
   pub names : EachUnit (λ u. length u.name ≤ 46) ks
-  pub short : EachUnit (λ u. AreShort 31 (variables u)) ks
+  pub short : EachUnit (λ u. AreShort 40 (variables u)) ks
   pub units : Each (IsModest ks) ks
 
 pub kernel_modest : SourceIsKept → (bytes : List ℕ) (ps : List Procedure) → program_of Source bytes ≡ Ok ps → IsAccepted ps → EachUnit (λ v. length (variables v) ≤ 1073741823) (kernel_of ps) → IsModestKernel (kernel_of ps)
 kernel_modest source bytes ps h accepted known =
     let s = source bytes ps h in
-    let kept = s.kept in
     let ks = kernel_of ps in
     let small = source_small ps s accepted.sound in
     let units = kernel_units_short ps small in
-    let short = kernel_variables_short ps accepted small (units_variables ps (units_hold ps kept.names)) (few_locals (stepped_program ps) (stepped_program ps) known) in
+    let short = kernel_variables_short ps accepted small (units_variables ps (units_hold ps (s.names accepted.sound))) (few_locals (stepped_program ps) (stepped_program ps) known) in
     let two : 2 ≤ 100 = omega arith in
-    let nested = kernel_nesting 30 ps kept.nested in
-    let shallow = kernel_depths 100 two ps (program_low 100 ps kept.depths) in
+    let nested = kernel_nesting 30 ps s.nested in
+    let shallow = kernel_depths 100 two ps (program_low 100 ps s.depths) in
     record {
       few_units = units.few_units;
       names = units.names;
@@ -184,22 +180,22 @@ module _ (qs : List Procedure) (all : Each HasShortNames qs) where
       let none = sound_has_none run_rules qs sound in
       units_pass qs all (none_each (faults_of_names run_rules qs) qs none.names) (none_each (λ (u : Procedure). flat_map (λ s. faults_of_call qs u s.0 s.1) (statements u.body)) qs none.calls)
 
-module _ (sb : Bool) (m : ProgramMarks) (ks : List Procedure) (vars outvars : List Bool) (checked : IsChecked run_rules ks) (less : length ks ≤ 402000) (adjoints : (u : Procedure) → length (adjoint_name ks u) ≤ 63) (each : Each (IsModest ks) ks) (unsplit : SplitsNothing m) (shadows : AllHaveShadows m ks ks) where
+module _ (sb : Bool) (m : ProgramMarks) (ks : List Procedure) (vars outvars : List Bool) (checked : IsChecked run_rules ks) (less : length ks ≤ 402000) (its_short : (u : Procedure) (k : Making) → length (its_name ks u k) ≤ 63) (each : Each (IsModest ks) ks) (shadows : AllHaveShadows m ks ks) (may : AllMaySplit sb m ks ks) where
   emitted_short : (us : List Procedure) → IsSound run_rules (emitted_for_with sb m ks vars outvars us) → keeps (short_names 63) (emitted_for_with sb m ks vars outvars us) ≡ true
   emitted_short [] sound = refl
   emitted_short (u ∷ us) sound =
       let named = all_named run_rules ks checked in
       program_passes (emitted_units_with sb m ks u vars outvars ks)
-      (each_emitted sb m ks u vars outvars unsplit HasShortNames ks (carried_short sb m ks u vars outvars named less adjoints unsplit ks each) (adjoints_short sb m ks u vars outvars named less adjoints unsplit ks each shadows)) sound
+      (each_emitted sb m ks u vars outvars HasShortNames ks (carried_short sb m ks u vars outvars named less its_short ks each) (all_made_short sb m ks u vars outvars named less its_short ks each shadows may)) sound
 
 pub emitted_runnable : KeptReads → SourceIsKept → (schedules : Bool) → EmittedIsRunnableWith schedules
-emitted_runnable reads source sb bytes ps h accepted known m unsplit shadows head vars outvars =
+emitted_runnable reads source sb bytes ps h accepted known m shadows may head vars outvars =
     let ks = kernel_of ps in
     let k = kernel_modest source bytes ps h accepted known in
     let checked = kernel_checked ps accepted in
     let few : run_rules.chain ≤ run_rules.chain = omega arith in
-    let adjoints = adjoint_short ks k.few_units k.names k.short known in
-    let sound = marked_sound run_rules ks checked few sb m unsplit shadows head vars outvars in
+    let its_short = made_short_name ks k.few_units k.names k.short known in
+    let sound = marked_sound run_rules ks checked few sb m shadows may head vars outvars in
     let limits = emitted_shallow source sb bytes ps h m head vars outvars in
-    reads (emitted_program_with sb m ks head vars outvars) (marked_written run_rules ks checked sb m unsplit shadows head vars outvars)
-    (record { names = emitted_short sb m ks vars outvars checked k.few_units adjoints k.units unsplit shadows (unit_at head ks) sound; depths = limits.depths; nested = limits.nested })
+    reads (emitted_program_with sb m ks head vars outvars) (marked_written run_rules ks checked sb m shadows may head vars outvars)
+    (record { names = emitted_short sb m ks vars outvars checked k.few_units its_short k.units shadows may (unit_at head ks) sound; depths = limits.depths; nested = limits.nested })

@@ -8,7 +8,7 @@ use Rattle.adj_tree.specs.Size as trees
 use Rattle.adj_tree.specs.Size.{term_depth}
 use Rattle.def_text.specs.Char.{number_of}
 use Rattle.def_text.specs.Condition.{Condition, test}
-use Rattle.def_text.specs.Form.{Form, subroutine, implicit_none, integers, simple, logical, opens_do, opens_while, end_do, go_on, opens_if, otherwise, otherwise_if, end_if, leaves, ends}
+use Rattle.def_text.specs.Form.{Form, subroutine, implicit_none, integers, common, simple, logical, opens_do, opens_while, end_do, go_on, opens_if, otherwise, otherwise_if, end_if, leaves, ends}
 use Rattle.def_text.specs.Grammar.{Syntax, Arguments, only, beside, with_both, tree, trees_before}
 use Rattle.def_text.specs.Statement.{Item, called, Range}
 use Rattle.def_text.specs.Lexeme.{Lexeme}
@@ -89,6 +89,7 @@ module _ (d : ℕ) where
     form_shallow (phrases.Says.heading {x = x} {dummies = dummies} s) mark f e = form_is (subroutine x dummies) f e refl
     form_shallow phrases.Says.implicit mark f e = form_is implicit_none f e refl
     form_shallow (phrases.Says.declaration {is = is} s) mark f e = form_is (integers (map item is)) f e (items_shallow (map item is))
+    form_shallow (phrases.Says.shared (phrases.block {b = b} {is = is} s l)) mark f e = form_is (common b (map item is)) f e (items_shallow (map item is))
     form_shallow (phrases.Says.assigned {d = a} s) mark f e = let r = map_some simple (act a) f e in ap (form_keeps (shallow d)) (sym r.2) ∙ deed_shallow a r.0 r.1
     form_shallow (phrases.Says.called {d = a} s) mark f e = let r = map_some simple (act a) f e in ap (form_keeps (shallow d)) (sym r.2) ∙ deed_shallow a r.0 r.1
     form_shallow (phrases.Says.guarded {c = c} {d = a} g s) mark f e =

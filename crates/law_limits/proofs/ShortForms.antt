@@ -6,7 +6,7 @@ use Rattle.adj_tree.specs.Code.{Var, Terms, none, Test, Mark, Act, Extent}
 use Rattle.def_text.specs.Form as forms
 use Rattle.def_text.specs.Form.{Form, ReadsForm}
 use Rattle.def_text.specs.Statement as says
-use Rattle.def_text.specs.Statement.{Item, Range, ReadsPlace, ReadsAssignment, ReadsNames, ReadsHead, ReadsExtent, ReadsItem, ReadsItems, ReadsCall, ReadsRange, ReadsDo, ReadsGuard, ReadsGuarded}
+use Rattle.def_text.specs.Statement.{Item, Range, ReadsPlace, ReadsAssignment, ReadsNames, ReadsHead, ReadsExtent, ReadsItem, ReadsItems, ReadsCommon, ReadsCall, ReadsRange, ReadsDo, ReadsGuard, ReadsGuarded}
 use Rattle.def_text.specs.Lexeme.{Lexeme}
 use Rattle.def_text.specs.declared.stated.Kind.{Kind}
 use Rattle.law_limits.specs.Rule.{act_keeps}
@@ -50,6 +50,9 @@ module _ (n : ℕ) (wide : 17 ≤ n) where
   items (says.ReadsItems.last d) = item d
   items (says.ReadsItems.another {i = i} d ds) = item d ∙ ap (λ t. item_keeps (short_names n) i && t) (items ds)
 
+  block : {ts : List Lexeme} {b : List ℕ} {is : List Item} → ReadsCommon ts b is → lexemes_short n ts ≡ ((is_short n b && true) && list_all (item_keeps (short_names n)) is)
+  block (says.ReadsCommon.block {b = b} {is = is} ds e) = ap (λ t. is_short n b && t) (items ds) ∙ ap (λ t. t && list_all (item_keeps (short_names n)) is) (sym (and_true (is_short n b)))
+
   calling : {ts : List Lexeme} {a : Act} → ReadsCall ts a → lexemes_short n ts ≡ act_keeps (short_names n) a
   calling (says.ReadsCall.alone {x = x}) = sym (called_short n wide x none)
   calling (says.ReadsCall.empty {x = x}) = sym (called_short n wide x none)
@@ -79,6 +82,7 @@ module _ (n : ℕ) (wide : 17 ≤ n) where
   form_short (forms.ReadsForm.heading d) = and_true _ ∙ head d
   form_short forms.ReadsForm.implicit = refl
   form_short (forms.ReadsForm.declaration d) = and_true _ ∙ items d
+  form_short (forms.ReadsForm.shared d) = and_true _ ∙ block d
   form_short (forms.ReadsForm.assigned d) = and_true _ ∙ assignment d
   form_short (forms.ReadsForm.calls d) = and_true _ ∙ calling d
   form_short (forms.ReadsForm.guarded {c = c} d e) = and_true _ ∙ guard d ∙ ap (λ t. test_short n c && t) (guarded e)

@@ -2,7 +2,8 @@
 use Rattle.std.proofs.Common.{◌≡◌, ◌≤◌, ◌⊎◌, inl, inr, ℕ, ◌-◌, Bool, true, false, eqb, List, [], ◌∷◌, length, drop, Option, Some, None, Result, Ok, Err, refl, sym, ap, ap₂, ◌∙◌, arith, length-take, length-drop}
 use Rattle.std.specs.Prelude.{◌||◌, ◌&&◌, not, nat_lt, if◌then◌else◌}
 use Rattle.std.specs.List.{All, list_any}
-use Rattle.std.proofs.lemmas.Bool.{and_parts}
+use Rattle.std.proofs.lemmas.Bool.{and_parts, and_from, or_parts, or_from}
+use Rattle.std.proofs.lemmas.Bool.Decides.{nat_tests}
 use Rattle.adj_tree.specs.Code.{unmarked}
 use Rattle.adj_tree.specs.Code as trees
 use Rattle.adj_tree.specs.View.{mark_of}
@@ -122,6 +123,7 @@ led : {mark : trees.Mark} {kind : Kind} {ws : List Lexeme} {f : Form} → ReadsF
 led (forms.ReadsForm.heading d) = inl refl
 led forms.ReadsForm.implicit = inl refl
 led (forms.ReadsForm.declaration d) = inl refl
+led (forms.ReadsForm.shared d) = inl refl
 led (forms.ReadsForm.assigned d) = inl refl
 led (forms.ReadsForm.calls d) = inl refl
 led (forms.ReadsForm.guarded d e) = inl refl
@@ -242,3 +244,45 @@ source_short bytes ss ts e all =
     let covered : All IsCovered ss = rw a.2 at (all_covered (limits_of Source) a.0) in
     let wide : 17 ≤ 31 = omega arith in
     sym (long_forms 31 wide all covered) ∙ all_bound (Some 19) 31 a.0 ss a.2
+
+-- ---- what isn't too long for a limit isn't for a greater one
+
+module _ (n k : ℕ) (le : n ≤ k) where
+  less : (m : ℕ) → nat_lt n m ≡ false → nat_lt k m ≡ false
+  less m h = grind (arith, nat_tests)
+
+  token_less : (t : Token) → is_too_long (Some n) t ≡ false → is_too_long (Some k) t ≡ false
+  token_less t h = go (is_name t.kind) h
+    where
+      go : (b : Bool) → (b && nat_lt n (t.end - t.start)) ≡ false → (b && nat_lt k (t.end - t.start)) ≡ false
+      go true g = less (t.end - t.start) g
+      go false g = refl
+
+  tokens_less : (ts : List Token) → list_any (is_too_long (Some n)) ts ≡ false → list_any (is_too_long (Some k)) ts ≡ false
+  tokens_less [] h = refl
+  tokens_less (t ∷ ts) h = let p = or_parts (is_too_long (Some n) t) (list_any (is_too_long (Some n)) ts) h in or_from (is_too_long (Some k) t) (list_any (is_too_long (Some k)) ts) (token_less t p.0) (tokens_less ts p.1)
+
+  mark_less : (kind : Kind) (m : Mark) → is_marked_long (Some n) kind m ≡ false → is_marked_long (Some k) kind m ≡ false
+  mark_less Do (From x) h = less (length x) h
+  mark_less Do m h = refl
+  mark_less kind m h = refl
+
+  long_less : (s : Stated) → is_long n s ≡ false → is_long k s ≡ false
+  long_less s h =
+      let p = or_parts (list_any (is_too_long (Some n)) s.tokens) (is_marked_long (Some n) s.kind s.mark) h in
+      or_from (list_any (is_too_long (Some k)) s.tokens) (is_marked_long (Some k) s.kind s.mark) (tokens_less s.tokens p.0) (mark_less s.kind s.mark p.1)
+
+  none_less : (ss : List Stated) → none_long n ss ≡ true → none_long k ss ≡ true
+  none_less [] h = refl
+  none_less (s ∷ ss) h =
+      let p = and_parts (not (is_long n s)) (none_long n ss) h in
+      and_from (not (is_long k s)) (none_long k ss) (ap not (long_less s (not_not (is_long n s) p.0))) (none_less ss p.1)
+
+-- so they have at most 40, too
+pub source_longer : (bytes : List ℕ) (ss : List Stated) (ts : List Statement) → statements_of (limits_of Source) bytes ≡ Ok ss → ReadsAll ss ts → all_keep (short_names 40) ts ≡ true
+source_longer bytes ss ts e all =
+    let a = bind_ok (lines_of (limits_of Source) bytes) (all_stated (limits_of Source)) ss e in
+    let covered : All IsCovered ss = rw a.2 at (all_covered (limits_of Source) a.0) in
+    let wide : 17 ≤ 40 = omega arith in
+    let more : 31 ≤ 40 = omega arith in
+    sym (long_forms 40 wide all covered) ∙ none_less 31 40 more ss (all_bound (Some 19) 31 a.0 ss a.2)

@@ -1,8 +1,10 @@
 -- A program that is read in a mode is nested no deeper than the mode allows, and has no more statements and units.
 use Rattle.std.proofs.Common.{◌≡◌, ◌≤◌, ℕ, ◌+◌, ◌*◌, ◌-◌, Bool, true, false, List, [], ◌∷◌, length, Option, Some, None, Result, Ok, refl, sym, ap, subst, ◌∙◌, arith, length-append}
 use Rattle.std.specs.Prelude.{◌&&◌, ◌||◌, ◌==◌, not, nat_le, is_none}
+use Rattle.std.specs.List.{list_all}
 use Rattle.std.proofs.lemmas.Bool.{eqb-false, leb-false, or_parts, and_from}
-use Rattle.adj_tree.specs.Code.{Mark, Terms, none, Runtime, Act, Procedure}
+use Rattle.adj_tree.specs.Code.{Mark, Terms, none, Runtime, Act}
+use Rattle.adj_tree.specs.Common.{Shared}
 use Rattle.adj_tree.specs.Size.{act_depth, IsNested}
 use Rattle.adj_tree.specs.View.{mark_of}
 use Rattle.adj_parse_expression.specs.declared.flaw.Flaw.{Flaw}
@@ -22,23 +24,30 @@ use Rattle.def_text.specs.declared.stated.Kind.TheVariants.{End}
 use Rattle.def_text.specs.declared.stated.Stated.{Stated}
 use Rattle.def_text.proofs.LinesMarked.{bind_ok}
 use Rattle.adj_parse.specs.Order.{breaks_loop, is_end, is_heading, opens_block}
-use Rattle.adj_parse.specs.Trees.{bounds_of, State, start, has_stray_mark, is_large, is_deep, is_full, checked, behind, follow, trees_from, trees_of}
+use Rattle.adj_parse.specs.Trees.{bounds_of, State, start, has_stray_mark, is_large, is_deep, is_full, checked, behind, follow, trees_from, trees_of, shared_program_of}
 use Rattle.adj_parse.specs.Unit.{Current, finished, continued, followed, open_blocks, is_misplaced}
 use Rattle.adj_parse.proofs.Machine.{kind_of, stands}
 use Rattle.adj_parse.proofs.Followed as chain
 use Rattle.adj_parse.proofs.Followed.{AllSay, Closed, reads_all, chain_runs, let_through, with_form-ok, led_by}
 use Rattle.adj_parse.proofs.UnitsSound.{run_reads}
 use Rattle.adj_parse_statement.specs.Said.{said}
-use Rattle.law_limits.specs.Kept.{short_names, shallow, acts_in}
+use Rattle.def_common.specs.Source.{without_blocks}
+use Rattle.def_kernel.specs.Kernel.{EachUnit}
+use Rattle.def_names.specs.Fault.{source_rules}
+use Rattle.def_names.specs.Check.{IsSound}
+use Rattle.law_limits.specs.Rule.{keeps}
+use Rattle.law_limits.specs.Kept.{short_names, shallow, acts_in, statements_in}
 use Rattle.law_limits.specs.Reading.{SourceIsKept}
-use Rattle.law_limits.proofs.Keeping.{form_keeps, all_keep, units_keep}
+use Rattle.law_limits.proofs.Keeping.{units_in, shared_keeps, form_keeps, all_keep, shared_keep}
 use Rattle.law_limits.proofs.SaidForms.{Laws, said_shallow}
-use Rattle.law_limits.proofs.ShortStatements.{source_short}
+use Rattle.law_limits.proofs.ShortStatements.{source_short, source_longer}
 use Rattle.law_limits.proofs.Counts.{form_acts, all_acts, units_count}
 use Rattle.adj_parse_statement.proofs.SaidForms.{said_reads}
 use Rattle.law_limits.proofs.Heights.{height, opening, open_below}
 use Rattle.law_limits.proofs.Nesting.{tall, stands_suits, continued_height, finished_depth, nested_behind, IsTall}
 use Rattle.law_limits.proofs.Chain.{same_kind, calls_place}
+use Rattle.law_limits.proofs.Lowered.{lowered_units, lowered_length, lowered_statements, shared_units_keep, lowered_shallow, lowered_nested, lowered_named}
+use Rattle.law_limits.proofs.LoweredNames.{lowered_short}
 
 -- ---- a statement is one deep where it opens a block, and else not at all
 
@@ -82,6 +91,7 @@ form_flat : {mark : Mark} {kind : Kind} {lexemes : List Lexeme} {f : Form} → R
 form_flat (forms.ReadsForm.heading d) = refl
 form_flat forms.ReadsForm.implicit = refl
 form_flat (forms.ReadsForm.declaration d) = refl
+form_flat (forms.ReadsForm.shared d) = refl
 form_flat (forms.ReadsForm.assigned d) = assignment_flat d
 form_flat (forms.ReadsForm.calls d) = call_flat d
 form_flat (forms.ReadsForm.guarded d g) = ap (λ k. k + 1) (guarded_flat g)
@@ -137,7 +147,7 @@ module _ (n : ℕ) where
       let room = open_room (opens_block (kind_of f)) n (length c.nest.blocks) (height c.nest) o (open_below c.nest) h in
       omega arith
 
-  after : (done : List Procedure) (current : Option Current) (m l : ℕ) (f : Form) → stands (kind_of f) l current ≡ true → (opens_block (kind_of f) && nat_le n (length (open_blocks current))) ≡ false → opening f ≡ count_of (opens_block (kind_of f)) → IsNested n done → tall current ≤ n → IsTall n (followed done current m l f)
+  after : (done : List Shared) (current : Option Current) (m l : ℕ) (f : Form) → stands (kind_of f) l current ≡ true → (opens_block (kind_of f) && nat_le n (length (open_blocks current))) ≡ false → opening f ≡ count_of (opens_block (kind_of f)) → IsNested n (units_in done) → tall current ≤ n → IsTall n (followed done current m l f)
   after done None m l (subroutine x dummies) s o flat h g = (h, omega arith)
   after done None m l f s o flat h g = (h, omega arith)
   after done (Some c) m l ends s o flat h g =
@@ -150,7 +160,7 @@ abbrev begun_count : Option Current → ℕ
 begun_count None = 0
 begun_count (Some c) = 1
 
-counted : (most : ℕ) (done : List Procedure) (current : Option Current) (m l : ℕ) (f : Form) → stands (kind_of f) l current ≡ true → (is_heading (kind_of f) && nat_le most (length done)) ≡ false → length done + begun_count current ≤ most → length (followed done current m l f).done + begun_count (followed done current m l f).current ≤ most
+counted : (most : ℕ) (done : List Shared) (current : Option Current) (m l : ℕ) (f : Form) → stands (kind_of f) l current ≡ true → (is_heading (kind_of f) && nat_le most (length done)) ≡ false → length done + begun_count current ≤ most → length (followed done current m l f).done + begun_count (followed done current m l f).current ≤ most
 counted most done None m l (subroutine x dummies) s e h = let lt = leb-false most (length done) e in omega arith
 counted most done None m l f s e h = omega arith
 counted most done (Some c) m l ends s e h = let k = length-append done (finished c ∷ []) in omega arith
@@ -162,15 +172,15 @@ module _ (mode : Mode) (most : ℕ) (bounded : (k : ℕ) → is_full (bounds_of 
     tall_enough : IsTall (bounds_of mode).nesting s.units
     few : length s.units.done + begun_count s.units.current ≤ most
 
-  record Within (ps : List Procedure) (s : State) (ts : List Stated) : Type 0 where
-    pub nested : IsNested (bounds_of mode).nesting ps
+  record Within (ps : List Shared) (s : State) (ts : List Stated) : Type 0 where
+    pub nested : IsNested (bounds_of mode).nesting (units_in ps)
     pub few_units : length ps ≤ most
     pub few_statements : length ts ≤ s.room
 
-  answer : (s : State) (ps : List Procedure) → IsWithin s [] → s.units.done ≡ ps → Within ps s []
-  answer s ps h e = record { nested = subst (IsNested (bounds_of mode).nesting) e h.tall_enough.0; few_units = subst (λ (xs : List Procedure). length xs ≤ most) e (omega (arith, h.few)); few_statements = omega arith }
+  answer : (s : State) (ps : List Shared) → IsWithin s [] → s.units.done ≡ ps → Within ps s []
+  answer s ps h e = record { nested = subst (λ xs. IsNested (bounds_of mode).nesting (units_in xs)) e h.tall_enough.0; few_units = subst (λ (xs : List Shared). length xs ≤ most) e (omega (arith, h.few)); few_statements = omega arith }
 
-  chain_within : (ts : List Stated) (s : State) (ps : List Procedure) → IsWithin s ts → trees_from mode s ts ≡ Ok ps → Within ps s ts
+  chain_within : (ts : List Stated) (s : State) (ps : List Shared) → IsWithin s ts → trees_from mode s ts ≡ Ok ps → Within ps s ts
   unfolding trees_from follow
   chain_within [] s ps h e = let same : s.units.done ≡ ps = cc in answer s ps h same
   chain_within (t ∷ ts) s ps h e =
@@ -211,6 +221,7 @@ two_acts : {mark : Mark} {kind : Kind} {lexemes : List Lexeme} {f : Form} → Re
 two_acts (forms.ReadsForm.heading d) = omega arith
 two_acts forms.ReadsForm.implicit = omega arith
 two_acts (forms.ReadsForm.declaration d) = omega arith
+two_acts (forms.ReadsForm.shared d) = omega arith
 two_acts (forms.ReadsForm.assigned d) = one_act d
 two_acts (forms.ReadsForm.calls d) = let one = one_call d in omega arith
 two_acts (forms.ReadsForm.guarded d g) = let one = one_guarded g in omega arith
@@ -229,8 +240,17 @@ twice : {stated : List Stated} {ss : List Statement} → ReadsAll stated ss → 
 twice texts.ReadsAll.none = omega arith
 twice (texts.ReadsAll.more {ss = ss} {f = f} d rest) = let p = two_acts d in let q = twice rest in omega arith
 
-pub source_kept : Laws → SourceIsKept
-source_kept laws bytes ps h =
+-- what a text in Source mode gives, with its COMMON statements
+pub record IsSourceShared (units : List Shared) : Type 0 where
+  pub names : list_all (shared_keeps (short_names 31)) units ≡ true
+  pub longer : list_all (shared_keeps (short_names 40)) units ≡ true
+  pub depths : list_all (shared_keeps (shallow 100)) units ≡ true
+  pub nested : IsNested 30 (units_in units)
+  pub few_units : length units ≤ 2000
+  pub few_statements : statements_in (units_in units) ≤ 400000
+
+pub shared_source : Laws → (bytes : List ℕ) (units : List Shared) → shared_program_of Source bytes ≡ Ok units → IsSourceShared units
+shared_source laws bytes ps h =
     let a = bind_ok (statements_of (limits_of Source) bytes) (trees_of Source) ps h in
     let r = chain_runs Source a.0 (start Source) ps (closed a.0) a.2 in
     let all = reads_all Source r.1 in
@@ -241,11 +261,30 @@ source_kept laws bytes ps h =
     let double = twice all in
     let few = w.few_statements in
     record {
-      kept = record {
-        names = sym (units_keep (short_names 31) units) ∙ source_short bytes a.0 r.0 a.1 all;
-        depths = sym (units_keep (shallow 100) units) ∙ all_shallow_forms laws r.1;
-        nested = w.nested;
-      };
+      names = sym (shared_keep (short_names 31) units) ∙ source_short bytes a.0 r.0 a.1 all;
+      longer = sym (shared_keep (short_names 40) units) ∙ source_longer bytes a.0 r.0 a.1 all;
+      depths = sym (shared_keep (shallow 100) units) ∙ all_shallow_forms laws r.1;
+      nested = w.nested;
       few_units = w.few_units;
       few_statements = omega arith;
+    }
+
+-- so its program without blocks keeps the limits
+pub source_kept : Laws → SourceIsKept
+source_kept laws bytes program h =
+    let a = bind_ok (shared_program_of Source bytes) without_blocks program h in
+    let units : List Shared = a.0 in
+    let s = shared_source laws bytes units a.1 in
+    let l = lowered_units units program a.2 in
+    let length_same : length program ≡ length units = ap length l.1 ∙ lowered_length units in
+    let count : statements_in program ≡ statements_in (units_in units) = ap statements_in l.1 ∙ lowered_statements units in
+    let shared_units = s.few_units in
+    let shared_statements = s.few_statements in
+    record {
+      depths = ap (keeps (shallow 100)) l.1 ∙ lowered_shallow 100 (omega arith) units (shared_units_keep (shallow 100) units s.depths);
+      nested = subst (IsNested 30) (sym l.1) (lowered_nested 30 units s.nested);
+      few_units = omega arith;
+      few_statements = omega arith;
+      units = subst (EachUnit (λ u. length u.name ≤ 31)) (sym l.1) (lowered_named units s.names);
+      names = λ sound. subst (λ qs. IsSound source_rules qs → keeps (short_names 40) qs ≡ true) (sym l.1) (lowered_short units s.few_units s.names s.longer) sound;
     }

@@ -16,7 +16,7 @@ use Rattle.def_sweep.specs.Declared.{helpers_from}
 use Rattle.def_names.proofs.Fresh.{digits_same, digits_pass}
 use Rattle.def_names.proofs.NameLists.{has-append}
 use Rattle.def_sweep.specs.Plan.{Plan, Schedules, Step}
-use Rattle.def_sweep.specs.Program.{works_used, temps_used, depth_used_with, tells_some_with, goes_back_with, reverses_by, any_step, has_slots, is_do, is_loop, helpers_among, loop_helpers_with, reversal_helpers, all_reversal_helpers, helpers_used_with}
+use Rattle.def_sweep.specs.Program.{works_used, temps_used, depth_used_with, tells_some_with, goes_back_with, reverses_by, any_step, has_slots, is_do, is_loop, helpers_among, loop_helpers_with, reversal_helpers, all_reversal_helpers, helpers_used_with, forth_slots, helpers_forth}
 use Rattle.law_emitted.proofs.Lists.{Each, each_append, each_more}
 use Rattle.law_emitted.proofs.Sources.{of_each}
 use Rattle.law_emitted.proofs.Tables.{has_var}
@@ -80,13 +80,13 @@ one_letter : (o : Derived) → length (mark_of o) ≤ 1
 one_letter adjoint_text = omega arith
 one_letter tangent_text = omega arith
 
-shadows_modest : (o : Derived) (a : Vars) (xs : List (List ℕ)) → Each (λ x. length x ≤ 31) xs → Each (Modest o) (map shadow (names_in a xs))
+shadows_modest : (o : Derived) (a : Vars) (xs : List (List ℕ)) → Each (λ x. length x ≤ 40) xs → Each (Modest o) (map shadow (names_in a xs))
 shadows_modest o a [] h = tt
 shadows_modest o a (x ∷ xs) h =
     let rest = shadows_modest o a xs h.1 in
     let all = length-append x (mark_of o) in
     let one = one_letter o in
-    let le : length x ≤ 31 = h.0 in
+    let le : length x ≤ 40 = h.0 in
     let here : Modest o (shadow x) = omega arith in
     elim (a (plain x)) as (λ b. Each (Modest o) (map shadow (if b then x ∷ names_in a xs else names_in a xs))) [ true ↦ (here, rest) | false ↦ rest ]
 
@@ -234,16 +234,16 @@ temps_short o base few n le =
 
 -- ---- a unit's table
 
-own_short : (xs : List (List ℕ)) → Each (λ x. length x ≤ 31) xs → Each Entry (map own xs)
+own_short : (xs : List (List ℕ)) → Each (λ x. length x ≤ 40) xs → Each Entry (map own xs)
 own_short [] h = tt
-own_short (x ∷ xs) h = let le : length x ≤ 31 = h.0 in (omega arith, own_short xs h.1)
+own_short (x ∷ xs) h = let le : length x ≤ 40 = h.0 in (omega arith, own_short xs h.1)
 
 entries_join : (ps qs : List Named) → Each Entry ps → Each Entry qs → Each Entry (ps ++ qs)
 entries_join [] qs h g = g
 entries_join (p ∷ ps) qs h g = (h.0, entries_join ps qs h.1 g)
 
 -- of a unit whose helpers get short names
-pub table_short_for : (o : Derived) (hs : List Var) → ((taken : List (List ℕ)) → length taken ≤ 9000000000 → Each Entry (named_for o taken hs)) → (a : Vars) (vs units : List (List ℕ)) → Each (λ x. length x ≤ 31) vs → length vs ≤ 2 ^ 30 → length units ≤ 804000 → Each Entry (unit_names_for o vs units (map shadow (names_in a vs) ++ hs))
+pub table_short_for : (o : Derived) (hs : List Var) → ((taken : List (List ℕ)) → length taken ≤ 9000000000 → Each Entry (named_for o taken hs)) → (a : Vars) (vs units : List (List ℕ)) → Each (λ x. length x ≤ 40) vs → length vs ≤ 2 ^ 30 → length units ≤ 1608000 → Each Entry (unit_names_for o vs units (map shadow (names_in a vs) ++ hs))
 table_short_for o hs helpers a vs units short few some =
     let eighteen : length reserved ≡ 18 = refl in
     let x = length-append vs (units ++ reserved) in
@@ -312,5 +312,24 @@ module _ (sc : Schedules) (p : Plan) (i : ℕ) (c : Code) (loops : depth_used_wi
       before adjoint_text k (helpers_from work 1 (works_used p.marks i c)) (helpers_from temp 1 (temps_used p.marks i c)) (from_modest adjoint_text work 1 (works_used p.marks i c) (omega arith)) (omega arith) (λ h hh.
       temps_short adjoint_text h (omega arith) (temps_used p.marks i c) (omega arith))))))))
 
-  pub table_short : (a : Vars) (vs units : List (List ℕ)) → Each (λ x. length x ≤ 31) vs → length vs ≤ 2 ^ 30 → length units ≤ 804000 → Each Entry (unit_names vs units (map shadow (names_in a vs) ++ helpers_used_with sc p i c))
+  pub table_short : (a : Vars) (vs units : List (List ℕ)) → Each (λ x. length x ≤ 40) vs → length vs ≤ 2 ^ 30 → length units ≤ 1608000 → Each Entry (unit_names vs units (map shadow (names_in a vs) ++ helpers_used_with sc p i c))
   table_short = table_short_for adjoint_text (helpers_used_with sc p i c) helpers_short
+
+  -- ---- the table of a forward unit
+
+  slots_modest : (z : Schedules) → depth_used_with z p i 0 c ≤ 45 → Each (Modest adjoint_text) (forth_slots z p i c)
+  slots_modest None le = tt
+  slots_modest (Some reads) le = acts_of (Some reads) has_slots slots le
+
+  slots_count : (z : Schedules) → depth_used_with z p i 0 c ≤ 45 → length (forth_slots z p i c) ≤ 45
+  slots_count None le = omega arith
+  slots_count (Some reads) le = few_of (Some reads) has_slots slots le
+
+  forth_short : (taken : List (List ℕ)) → length taken ≤ 9000000000 → Each Entry (named taken (helpers_forth sc p i c))
+  forth_short taken few =
+      loop_piece is_loop count taken _ (omega arith) (λ b hb.
+      loop_piece is_do first b _ (omega arith) (λ d hd.
+      loop_piece is_do stride d _ (omega arith) (λ e he. let some = slots_count sc loops in simple adjoint_text e (forth_slots sc p i c) (slots_modest sc loops) (omega arith))))
+
+  pub forth_table_short : (a : Vars) (vs units : List (List ℕ)) → Each (λ x. length x ≤ 40) vs → length vs ≤ 2 ^ 30 → length units ≤ 1608000 → Each Entry (unit_names vs units (map shadow (names_in a vs) ++ helpers_forth sc p i c))
+  forth_table_short = table_short_for adjoint_text (helpers_forth sc p i c) forth_short

@@ -32,3 +32,18 @@ not_less n k = grind (arith, nat_tests)
 pub and_group_three : (a b c d : Bool) → (a && (b && (c && d))) ≡ ((a && (b && c)) && d)
 and_group_three true b c d = and_group b c d
 and_group_three false b c d = refl
+
+-- the first of them behind the second
+pub and_behind : (a b c d : Bool) → (a && ((b && c) && d)) ≡ ((b && (a && c)) && d)
+and_behind true b c d = refl
+and_behind false true c d = refl
+and_behind false false c d = refl
+
+-- the third of them behind the fourth
+pub and_group_four : (a b c d e : Bool) → (a && ((b && c) && (d && e))) ≡ (((a && (b && d)) && c) && e)
+and_group_four false b c d e = refl
+and_group_four true false c d e = refl
+and_group_four true true false true e = refl
+and_group_four true true false false e = refl
+and_group_four true true true true e = refl
+and_group_four true true true false e = refl

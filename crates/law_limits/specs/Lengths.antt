@@ -41,11 +41,11 @@ abbrev pub AreShort : ℕ → List (List ℕ) → Type 0
 AreShort n [] = Unit {0}
 AreShort n (x ∷ xs) = (length x ≤ n) × AreShort n xs
 
--- the variables of the kernel of an accepted program have at most 31 characters, where those of the program have, and where it has fewer than ten thousand million locals in a unit
+-- the variables of the kernel of an accepted program have at most 40 characters, where those of the program have, and where it has fewer than ten thousand million locals in a unit
 abbrev pub KernelVariablesAreShort : Type 0
 KernelVariablesAreShort =
-    (ps : List Procedure) → IsAccepted ps → IsSmall ps → EachUnit (λ u. AreShort 31 (variables u)) ps → EachUnit (λ v. locals_count (stepped_program ps) v < 10 ^ 10) (stepped_program ps) →
-    EachUnit (λ v. AreShort 31 (variables v)) (kernel_of ps)
+    (ps : List Procedure) → IsAccepted ps → IsSmall ps → EachUnit (λ u. AreShort 40 (variables u)) ps → EachUnit (λ v. locals_count (stepped_program ps) v < 10 ^ 10) (stepped_program ps) →
+    EachUnit (λ v. AreShort 40 (variables v)) (kernel_of ps)
 
 -- a unit of a kernel has no more locals than variables
 abbrev pub LocalsAreVariables : Type 0

@@ -6,14 +6,15 @@ use Rattle.adj_tree.specs.Size.{IsNested}
 use Rattle.def_text.specs.Text.{text_of}
 use Rattle.def_text.specs.declared.mode.Mode.TheVariants.{Source, Run}
 use Rattle.def_names.specs.Variables.{variables}
-use Rattle.def_sweep.specs.Marking.{ProgramMarks, SplitsNothing}
+use Rattle.def_sweep.specs.Marking.{ProgramMarks}
 use Rattle.def_sweep.specs.Program.{emitted_program_with}
 use Rattle.def_kernel.specs.Kernel.{EachUnit}
 use Rattle.def_kernel.specs.Stepped.{kernel_of}
 use Rattle.law_kernel.specs.Sound.{IsAccepted}
 use Rattle.law_emitted.specs.Shadowed.{AllHaveShadows}
+use Rattle.law_emitted.specs.Splits.{AllMaySplit}
 use Rattle.law_emitted.specs.Emitted.{AreShallow}
-use Rattle.adj_parse.specs.Trees.{program_of}
+use Rattle.def_refused.specs.TextFaults.{program_of}
 use Rattle.law_limits.specs.Rule.{keeps}
 use Rattle.law_limits.specs.Kept.{shallow}
 use Rattle.def_text.specs.OrTooMany.{OrTooMany}
@@ -37,12 +38,12 @@ EmittedIsShallowWith schedules = (bytes : List ℕ) (ps : List Procedure) → pr
 abbrev pub EmittedIsShallow : Type 0
 EmittedIsShallow = EmittedIsShallowWith false
 
--- where each unit of the kernel of an accepted program has fewer than 2^30 variables, the text that is emitted for it by any marks that split no call and whose shadows are there
--- reads in Run mode as what was emitted, up to line numbers, or has too many statements (the units of split calls aren't treated here yet)
+-- where each unit of the kernel of an accepted program has fewer than 2^30 variables, the text that is emitted for it by any marks whose shadows are there and that split what may be
+-- split reads in Run mode as what was emitted, up to line numbers, or has too many statements
 abbrev pub EmittedIsRunnableWith : (schedules : Bool) → Type 0
 EmittedIsRunnableWith schedules =
     (bytes : List ℕ) (ps : List Procedure) → program_of Source bytes ≡ Ok ps → IsAccepted ps → EachUnit (λ v. length (variables v) ≤ 1073741823) (kernel_of ps) →
-    (m : ProgramMarks) → SplitsNothing m → AllHaveShadows m (kernel_of ps) (kernel_of ps) → (head : ℕ) (vars outvars : List Bool) →
+    (m : ProgramMarks) → AllHaveShadows m (kernel_of ps) (kernel_of ps) → AllMaySplit schedules m (kernel_of ps) (kernel_of ps) → (head : ℕ) (vars outvars : List Bool) →
     OrTooMany (λ found. unlined found ≡ unlined (emitted_program_with schedules m (kernel_of ps) head vars outvars)) (program_of Run (text_of (emitted_program_with schedules m (kernel_of ps) head vars outvars)))
 
 abbrev pub EmittedIsRunnable : Type 0

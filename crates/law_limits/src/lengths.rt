@@ -16,7 +16,7 @@ pub fn units_law()
     ensures { KernelUnitsAreShort }
 {}
 
-/// The variables of the kernel of an accepted program have at most 31 characters where those of the program have, and where it hasn't too many
+/// The variables of the kernel of an accepted program have at most 40 characters where those of the program have, and where it hasn't too many
 /// locals in a unit; of which it has no more than variables.
 pub fn variables_law()
     ensures short { KernelVariablesAreShort }

@@ -9,4 +9,4 @@ pub check-requires : goal.check-requires
 check-requires c =
     let ps = procedures_of c.args.program.now in
     let a = c.requires.accepted in
-    record { written = subst IsWritten (sym c.in_ok-lowered.ensures.kernel) (whole_kernel_written ps a.written (sound_calls ps a.written a.sound)) }
+    record { written = λ none. subst IsWritten (sym c.in_ok-lowered.ensures.kernel) (whole_kernel_written ps a.written (sound_calls ps a.written a.sound)) }
