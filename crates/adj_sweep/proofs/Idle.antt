@@ -5,7 +5,8 @@ use Rattle.adj_tree.specs.Code.{plain, shadow, helper, work, Term, lit, Terms, n
 use Rattle.def_meaning.specs.Append.{◌+++◌, one}
 use Rattle.def_names.specs.Numbers.{Vars}
 use Rattle.def_sweep.specs.Marked.{code_if, place}
-use Rattle.def_sweep.specs.AdjointOf.{is_active_where, temps_where, back_where, adjoint_where}
+use Rattle.def_sweep.specs.Occurrences.{is_active_where}
+use Rattle.def_sweep.specs.AdjointOf.{temps_where, back_where, adjoint_where}
 use Rattle.def_sweep.specs.Plan.{Callee, Plan, group, Schedules}
 use Rattle.def_sweep.specs.Rows.{is_empty, pop, pops, told_backward}
 use Rattle.def_sweep.specs.Emission.{backward_act_with, backward_with}

@@ -4,7 +4,8 @@ ghost use Rattle.std.specs.Prelude.{◌≡◌, ◌+◌, ◌&&◌, ◌||◌, fals
 ghost use Rattle.adj_tree.specs.View.{term_of};
 ghost use Rattle.def_sweep.specs.Marks.{active_at};
 ghost use Rattle.def_sweep.specs.Marked.{count_of, is_compound};
-ghost use Rattle.def_sweep.specs.AdjointOf.{is_active_where, temps_in_where, works_in_where};
+ghost use Rattle.def_sweep.specs.Occurrences.{is_active_where};
+ghost use Rattle.def_sweep.specs.AdjointOf.{temps_in_where, works_in_where};
 ghost use Rattle.adj_sweep_assignment.specs.View.{marks_of};
 
 use adj_sweep_assignment::Marking;

@@ -10,7 +10,8 @@ use Rattle.def_meaning.specs.Append.{◌+++◌, one}
 use Rattle.def_meaning.specs.Rename.{rename, rename_term}
 use Rattle.def_names.specs.Numbers.{Vars}
 use Rattle.def_sweep.specs.Marked.{code_if}
-use Rattle.def_sweep.specs.AdjointOf.{is_active_where, temps_where}
+use Rattle.def_sweep.specs.Occurrences.{is_active_where}
+use Rattle.def_sweep.specs.AdjointOf.{temps_where}
 use Rattle.def_tangent.specs.TangentOf.{tangent_term, parts_where, before_assignment}
 use Rattle.adj_sweep_assignment.specs.Behind.{AreBehind}
 use Rattle.adj_sweep_assignment.proofs.Behind.{both_behind}

@@ -3,7 +3,8 @@ use Rattle.std.proofs.Common.{◌≡◌, Bool, true, false, refl, sym, ap, ◌�
 use Rattle.std.specs.Prelude.{◌&&◌}
 use Rattle.adj_tree.specs.Code.{Var, Term, Terms, assign}
 use Rattle.def_names.specs.Numbers.{Vars}
-use Rattle.def_sweep.specs.AdjointOf.{is_active_where, temps_in_where}
+use Rattle.def_sweep.specs.Occurrences.{is_active_where}
+use Rattle.def_sweep.specs.AdjointOf.{temps_in_where}
 use Rattle.def_tangent.specs.TangentOf.{parts_in_where}
 use Rattle.adj_tangent.specs.declared.uses.Counts.{Counts}
 use Rattle.adj_tangent.specs.declared.uses.Used.{Used}

@@ -6,7 +6,8 @@ use Rattle.def_meaning.specs.Append.{◌+++◌}
 use Rattle.def_names.specs.Numbers.{Vars}
 use Rattle.def_names.proofs.Variables.{or_false}
 use Rattle.def_sweep.specs.Marked.{is_compound, count_of, own_or, own_code}
-use Rattle.def_sweep.specs.AdjointOf.{is_active_where, has_own_where, temps_in_where, shrunk_where, temps_where}
+use Rattle.def_sweep.specs.Occurrences.{is_active_where}
+use Rattle.def_sweep.specs.AdjointOf.{has_own_where, temps_in_where, shrunk_where, temps_where}
 use Rattle.def_tangent.specs.TangentOf.{parts_in_where, tangent_term, sum_of, difference_of, power_factor, parts_where, own_part}
 
 pub record IsPassive (on : Vars) (t : Term) : Type 0 where

@@ -7,7 +7,8 @@ use Rattle.def_meaning.specs.Rename.{rename_term, rename_terms, rename_test, ren
 use Rattle.def_meaning.proofs.RenamedLists.{rename-append}
 use Rattle.def_names.specs.Numbers.{Vars}
 use Rattle.def_sweep.specs.Marked.{code_if, count_of, own_or, own_code, work_var}
-use Rattle.def_sweep.specs.AdjointOf.{is_active_where, has_own_where, temps_in_where, shrunk_where, temps_where}
+use Rattle.def_sweep.specs.Occurrences.{is_active_where}
+use Rattle.def_sweep.specs.AdjointOf.{has_own_where, temps_in_where, shrunk_where, temps_where}
 use Rattle.def_sweep.specs.Plan.{names_of}
 use Rattle.def_sweep.specs.Bindings.{bindings, actuals_in}
 use Rattle.law_emitted.proofs.Lists.{Each}

@@ -10,7 +10,8 @@ use Rattle.def_meaning.specs.Rename.{rename}
 use Rattle.def_meaning.proofs.Appends.{append_assoc}
 use Rattle.def_names.specs.Numbers.{Vars}
 use Rattle.def_sweep.specs.Marked.{is_compound, count_of, own_or, work_var}
-use Rattle.def_sweep.specs.AdjointOf.{is_active_where, has_own_where, temps_in_where}
+use Rattle.def_sweep.specs.Occurrences.{is_active_where}
+use Rattle.def_sweep.specs.AdjointOf.{has_own_where, temps_in_where}
 use Rattle.def_tangent.specs.TangentOf.{parts_in_where, tangent_term, sum_of, difference_of, power_factor, own_part, parts_where}
 use Rattle.adj_sweep_assignment.specs.Behind.{AreBehind}
 use Rattle.adj_sweep_assignment.proofs.Behind.{nothing_behind, both_behind}

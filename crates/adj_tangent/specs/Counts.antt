@@ -2,7 +2,8 @@
 use Rattle.std.specs.Prelude.{◌≡◌}
 use Rattle.adj_tree.specs.Code.{Term, Act, Code}
 use Rattle.def_names.specs.Numbers.{Vars}
-use Rattle.def_sweep.specs.AdjointOf.{is_active_where, temps_in_where}
+use Rattle.def_sweep.specs.Occurrences.{is_active_where}
+use Rattle.def_sweep.specs.AdjointOf.{temps_in_where}
 use Rattle.def_tangent.specs.TangentOf.{parts_in_where}
 use Rattle.def_tangent.specs.Program.{parts_act, parts_used, temps_act, temps_used}
 use Rattle.adj_tangent.specs.declared.uses.Counts.{Counts}

@@ -7,7 +7,8 @@ use Rattle.adj_tree.specs.declared.expr.Expr.{Expr}
 use Rattle.def_meaning.specs.Rename.{rename_term}
 use Rattle.def_names.specs.Numbers.{Vars}
 use Rattle.def_sweep.specs.Marked.{count_of, work_var}
-use Rattle.def_sweep.specs.AdjointOf.{is_active_where, temps_in_where}
+use Rattle.def_sweep.specs.Occurrences.{is_active_where}
+use Rattle.def_sweep.specs.AdjointOf.{temps_in_where}
 use Rattle.def_tangent.specs.TangentOf.{parts_in_where, tangent_term}
 use Rattle.adj_tangent.specs.declared.terms.Tangent.{Tangent}
 

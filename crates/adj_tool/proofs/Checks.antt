@@ -6,7 +6,7 @@ use Rattle.std.proofs.lemmas.List.{length-map}
 use Rattle.adj_tree.specs.Code.{Procedure}
 use Rattle.adj_tree.specs.Lines.{unlined}
 use Rattle.adj_tree.specs.declared.marks.Head.{Head}
-use Rattle.def_text.specs.Reads.{Reads}
+use Rattle.def_common.specs.Source.{ReadsLowered, KeepsRuns}
 use Rattle.def_text.specs.Text.{text_of}
 use Rattle.def_text.specs.Written.{IsWritten}
 use Rattle.def_text.specs.declared.mode.Mode.TheVariants.{Source, Run}
@@ -24,6 +24,7 @@ use Rattle.def_kernel.specs.Weights.{WeighsAtMost}
 use Rattle.def_kernel.specs.Stepped.{kernel_of}
 use Rattle.law_kernel.specs.Sound.{IsAccepted}
 use Rattle.def_adjoint.specs.Adjoint.{IsAdjointOf}
+use Rattle.law_emitted.proofs.Calling.{unsplit_may}
 use Rattle.law_emitted.proofs.Kernels.{kernel_checked, found_name, becomes}
 use Rattle.law_shape.proofs.Accepted.{accepted_has_shape}
 use Rattle.law_analysed.proofs.Lending.{exact_shadows}
@@ -38,7 +39,7 @@ use Rattle.law_planned.proofs.OwnNames.{own_names}
 use Rattle.law_analysed.specs.MarkedLines.{program_lines, AreLinesApart}
 use Rattle.adj_tool_answer.specs.Answer.{Answer}
 use Rattle.adj_tool_answer.specs.Laws.{ProgramTold}
-use Rattle.adj_parse.specs.Trees.{program_of}
+use Rattle.def_refused.specs.TextFaults.{program_of}
 use Rattle.adj_data.specs.Fitting.{IsSized}
 use Rattle.adj_tool_answer.specs.Endings.{Asked}
 use Rattle.adj_tool_answer.proofs.Heads.{numbered}
@@ -71,7 +72,7 @@ module _ (ps : List Procedure) (name : List ℕ) (h : Head) (accepted : IsAccept
       let x = known.emitted in
       let few : EachUnit (λ v. length (variables v) ≤ most_numbered) (kernel_of ps) = few_variables (kernel_of ps) (fits_widest (kernel_of ps) fits) in
       let shadows : AllHaveShadows m (kernel_of ps) (kernel_of ps) = exact_shadows run_rules (kernel_problem ps name h.vars h.outvars) (kernel_checked ps accepted) x.activity x.analysed.active m refl (λ n. refl) in
-      subst (λ z. OrTooMany (λ found. unlined found ≡ unlined z) (program_of Run (text_of z))) (sym x.emitted) (runnable bytes ps given accepted few m (λ i. refl) shadows (unit_number (kernel_of ps) name) h.vars h.outvars)
+      subst (λ z. OrTooMany (λ found. unlined found ≡ unlined z) (program_of Run (text_of z))) (sym x.emitted) (runnable bytes ps given accepted few m shadows (unsplit_may true m (λ i. refl) (kernel_of ps) (kernel_of ps)) (unit_number (kernel_of ps) name) h.vars h.outvars)
 
   module _ (apart : AreLinesApart (program_lines ps)) (u : Procedure) (found : find_unit ps name ≡ Some u) where
     pub adjoins : (others : List Procedure) → unlined qs ≡ unlined others → IsAdjointOf (lines_by ps m) m ps name h.vars h.outvars others
@@ -226,11 +227,12 @@ module _ (r : Asked) (vars outvars : List (List ℕ)) (ps : List Procedure) (acc
       subst (λ v. RunsAdjoint are_both.marks ps r.head v (flags_of outvars head.unit.dummies) (read_back qs)) (vars_are ps r.head vars outvars sound h is)
       (subst (λ v. RunsAdjoint are_both.marks ps r.head h.vars v (read_back qs)) (outvars_are ps r.head vars outvars sound h is) runs_both)
 
-  pub is_compared : CheckAgrees → (bytes : List ℕ) → Reads bytes ps → (a : Answer) → a ≡ check_answer r both bytes → IsCompared r vars outvars bytes a
+  pub is_compared : CheckAgrees → (bytes : List ℕ) (reads : ReadsLowered bytes ps) → KeepsRuns reads.shared → (a : Answer) → a ≡ check_answer r both bytes → IsCompared r vars outvars bytes a
   unfolding both_adjoint are_adjoint
-  is_compared law bytes reads a same = λ done. record {
+  is_compared law bytes reads keeps a same = λ done. record {
     source = ps;
     reads = reads;
+    keeps = keeps;
     sides = both;
     are_sides = are_asked;
     runs = runs_asked;

@@ -9,7 +9,7 @@ use Rattle.adj_tree.specs.View.{procedure_of, procedures_of}
 use Rattle.adj_tree.specs.declared.unit.Program.{Program}
 use Rattle.adj_tree.specs.declared.marks.Head.{Head}
 use Rattle.def_meaning.specs.Written.{find_unit}
-use Rattle.def_text.specs.Reads.{Reads}
+use Rattle.def_common.specs.Source.{ReadsLowered, KeepsRuns}
 use Rattle.def_text.specs.ReadsAs.{ReadsAs}
 use Rattle.def_text.specs.Written as texts
 use Rattle.def_text.specs.Text.{text_of}
@@ -17,7 +17,7 @@ use Rattle.def_text.specs.declared.mode.Mode.TheVariants.{Source, Run}
 use Rattle.adj_tree.specs.declared.fault.Refusal.{Refusal}
 use Rattle.adj_tree.specs.Lines.{unlined}
 use Rattle.law_text.proofs.TextUnlined.{one_text}
-use Rattle.def_names.specs.Fault.{run_rules, first_of}
+use Rattle.def_names.specs.Fault.{source_rules, run_rules, first_of}
 use Rattle.def_names.specs.Check.{IsSound}
 use Rattle.def_names.specs.HeadFaults.{first_head_fault, faults_of_head, flags_found, unit_number, head_of}
 use Rattle.def_sweep.specs.Marking.{ProgramMarks, SplitsNothing}
@@ -28,6 +28,7 @@ use Rattle.def_names.proofs.Variables.{and_true}
 use Rattle.def_names.specs.StatementsIn.{statements_in}
 use Rattle.law_analysed.specs.MarkedLines.{program_lines, AreLinesApart}
 use Rattle.law_planned.proofs.ReadLines.{read_apart}
+use Rattle.adj_tool.proofs.LoweredLines.{lowered_lines}
 use Rattle.law_emitted.specs.Shadowed.{AllHaveShadows}
 use Rattle.def_kernel.specs.Form.{IsKernel}
 use Rattle.def_kernel.specs.Kernel.{EachUnit}
@@ -35,6 +36,7 @@ use Rattle.def_kernel.specs.Weights.{WeighsAtMost}
 use Rattle.def_kernel.specs.Stepped.{kernel_of}
 use Rattle.law_kernel.specs.Sound.{IsAccepted}
 use Rattle.def_adjoint.specs.Adjoint.{IsAdjointOf}
+use Rattle.law_emitted.proofs.Calling.{unsplit_may}
 use Rattle.law_emitted.proofs.Kernels.{kernel_checked, head_within}
 use Rattle.law_analysed.proofs.Lending.{exact_shadows}
 use Rattle.def_text.specs.OrTooMany.{OrTooMany}
@@ -62,7 +64,8 @@ use Rattle.adj_tool.specs.declared.task.Wanted.TheVariants as wanted
 use Rattle.adj_tool.specs.Arguments.{Request}
 use Rattle.adj_tool_answer.specs.Answer.{Answer}
 use Rattle.adj_tool_answer.specs.Laws.{ProgramTold}
-use Rattle.adj_parse.specs.Trees.{program_of}
+use Rattle.def_refused.specs.TextFaults.{program_of}
+use Rattle.adj_tool_answer.proofs.BlocksKept.{blocks_kept}
 use Rattle.adj_tool.proofs.Runs.{runs_adjoint}
 use Rattle.adj_tool.specs.Fitting.{most_numbered, is_numbered, kernel_fits}
 use Rattle.adj_tool.specs.Answer.{most_bytes, IsWritten, IsTangentGiven, IsGiven}
@@ -110,8 +113,8 @@ fits_known k us p h f =
     (ap₂ ◌&&◌ (numbered (length (procedures_of k.program)) f.units) (ap₂ ◌&&◌ (numbered (statements_in 0 (procedures_of k.program)) f.statements) (numbered (widest (map variables (procedures_of k.program))) (subst (λ n. n < 2 ^ 30) wide f.variables))))
 
 -- no two marked loops of a program stand at one line that a text within the limit gives
-pub lines_apart : (bytes : List ℕ) (ps : List Procedure) → length bytes ≤ most_bytes → Reads bytes ps → AreLinesApart (program_lines ps)
-lines_apart bytes ps few reads = read_apart bytes ps reads (omega (arith, few))
+pub lines_apart : (bytes : List ℕ) (ps : List Procedure) → length bytes ≤ most_bytes → ReadsLowered bytes ps → AreLinesApart (program_lines ps)
+lines_apart bytes ps few reads = subst (λ qs. AreLinesApart (program_lines qs)) (sym reads.is) (subst AreLinesApart (sym (lowered_lines reads.shared)) (read_apart bytes reads.shared reads.reads (omega (arith, few))))
 
 -- what is read as one program is read as one that differs in line numbers alone
 other_lines : (one other : List Procedure) → unlined one ≡ unlined other → (r : Result (List Procedure) Refusal) → OrTooMany (λ found. unlined found ≡ unlined one) r → OrTooMany (λ found. unlined found ≡ unlined other) r
@@ -130,10 +133,11 @@ module _ (r : Request) (ps : List Procedure) (h : Head) (sound : first_head_faul
 
   -- the text of what is emitted is a program, which has other lines than the one that was printed
   rewrites : (qs : List Procedure) (text : List ℕ) → text ≡ text_of qs → (back : ReadsAs text qs) → IsSound run_rules back.0 → OrTooMany (λ found. unlined found ≡ unlined qs) (program_of Run (text_of qs)) →
-      ProgramTold → (bytes : List ℕ) → Reads bytes ps → Rewrites r bytes text
-  rewrites qs text is_text back sound runs told bytes reads = record {
+      ProgramTold → (bytes : List ℕ) (reads : ReadsLowered bytes ps) → KeepsRuns reads.shared → Rewrites r bytes text
+  rewrites qs text is_text back sound runs told bytes reads keeps = record {
     source = ps;
     reads = reads;
+    keeps = keeps;
     unit = there.unit;
     is_head = there.found;
     emitted = back.0;
@@ -148,7 +152,7 @@ module _ (r : Request) (ps : List Procedure) (h : Head) (sound : first_head_faul
   }
 
   -- the program that the text is, is an adjoint of the text that reads as the program
-  pub head_adjoins : IsAccepted ps → EmittedIsRunnableWith true → ProgramTold → (text : List ℕ) → ReadsWritten ps r.head h text → (bytes : List ℕ) → length bytes ≤ most_bytes → Reads bytes ps → program_of Source bytes ≡ Ok ps → WritesAdjoint r bytes text
+  pub head_adjoins : IsAccepted ps → EmittedIsRunnableWith true → ProgramTold → (text : List ℕ) → ReadsWritten ps r.head h text → (bytes : List ℕ) → length bytes ≤ most_bytes → ReadsLowered bytes ps → program_of Source bytes ≡ Ok ps → WritesAdjoint r bytes text
   unfolding rewrites
   head_adjoins accepted runnable told text back bytes few reads given =
       let x = back.exact in
@@ -159,9 +163,9 @@ module _ (r : Request) (ps : List Procedure) (h : Head) (sound : first_head_faul
       let shadows : AllHaveShadows back.marks (kernel_of ps) (kernel_of ps) =
       subst (λ n. AllHaveShadows n (kernel_of ps) (kernel_of ps)) (sym x.are) (exact_shadows run_rules (kernel_problem ps r.head h.vars h.outvars) (kernel_checked ps accepted) x.activity x.analysed.active m refl (λ n. refl)) in
       let unsplit : SplitsNothing back.marks = subst SplitsNothing (sym x.are) (λ i. refl) in
-      let runs : OrTooMany (λ found. unlined found ≡ unlined qs) (program_of Run (text_of qs)) = runnable bytes ps given accepted narrow back.marks unsplit shadows (unit_number (kernel_of ps) r.head) h.vars h.outvars in
+      let runs : OrTooMany (λ found. unlined found ≡ unlined qs) (program_of Run (text_of qs)) = runnable bytes ps given accepted narrow back.marks shadows (unsplit_may true back.marks unsplit (kernel_of ps) (kernel_of ps)) (unit_number (kernel_of ps) r.head) h.vars h.outvars in
       record {
-        programs = rewrites qs text back.is_text back.reads (planned.reversed_sound ps accepted r.head h.vars h.outvars x.activity x.liveness x.saved x.held x.analysed back.reads.0 same) runs told bytes reads;
+        programs = rewrites qs text back.is_text back.reads (planned.reversed_sound ps accepted r.head h.vars h.outvars x.activity x.liveness x.saved x.held x.analysed back.reads.0 same) runs told bytes reads (blocks_kept source_rules Source bytes ps given accepted.sound reads);
         marks = back.marks;
         exact = subst (λ z. AreExact ps r.head z back.marks) is x;
         adjoins =
@@ -171,7 +175,7 @@ module _ (r : Request) (ps : List Procedure) (h : Head) (sound : first_head_faul
       }
 
   -- the program that the text is, is the tangent of the text that reads as the program
-  pub head_tangents : IsAccepted ps → TangentIsRunnable → ProgramTold → (text : List ℕ) → ReadsTangent ps r.head h text → (bytes : List ℕ) → Reads bytes ps → program_of Source bytes ≡ Ok ps → WritesTangent r bytes text
+  pub head_tangents : IsAccepted ps → TangentIsRunnable → ProgramTold → (text : List ℕ) → ReadsTangent ps r.head h text → (bytes : List ℕ) → ReadsLowered bytes ps → program_of Source bytes ≡ Ok ps → WritesTangent r bytes text
   unfolding rewrites there
   head_tangents accepted runnable told text back bytes reads given =
       let k = kernel_problem ps r.head h.vars h.outvars in
@@ -180,7 +184,7 @@ module _ (r : Request) (ps : List Procedure) (h : Head) (sound : first_head_faul
       let runs : OrTooMany (λ found. unlined found ≡ unlined qs) (program_of Run (text_of qs)) = runnable bytes ps given accepted narrow k refl back.varied back.carried back.exact in
       let sound : IsSound run_rules back.reads.0 = sound_lines run_rules qs back.reads.0 (sym back.reads.2) (tangent_is_sound run_rules k (kernel_checked ps accepted) (omega arith) back.varied back.carried back.exact) in
       record {
-        programs = rewrites qs text back.is_text back.reads sound runs told bytes reads;
+        programs = rewrites qs text back.is_text back.reads sound runs told bytes reads (blocks_kept source_rules Source bytes ps given accepted.sound reads);
         varied = back.varied;
         carried = back.carried;
         exact = subst (λ v. IsCarrying (kernel_problem ps r.head v (flags_of r.outvars there.unit.dummies)) back.varied back.carried) vars_is (subst (λ v. IsCarrying (kernel_problem ps r.head h.vars v) back.varied back.carried) outvars_is back.exact);
@@ -188,7 +192,7 @@ module _ (r : Request) (ps : List Procedure) (h : Head) (sound : first_head_faul
       }
 
   -- the text that was wanted is what it is to be
-  pub head_transforms : IsAccepted ps → EmittedIsRunnableWith true → TangentIsRunnable → ProgramTold → (w : Wanted) (text : List ℕ) → ReadsFor w ps r.head h text → (bytes : List ℕ) → length bytes ≤ most_bytes → Reads bytes ps → program_of Source bytes ≡ Ok ps → Writes w r bytes text
+  pub head_transforms : IsAccepted ps → EmittedIsRunnableWith true → TangentIsRunnable → ProgramTold → (w : Wanted) (text : List ℕ) → ReadsFor w ps r.head h text → (bytes : List ℕ) → length bytes ≤ most_bytes → ReadsLowered bytes ps → program_of Source bytes ≡ Ok ps → Writes w r bytes text
   head_transforms accepted runnable tangent_runnable told wanted.Adjoint text back bytes few reads given = head_adjoins accepted runnable told text back bytes few reads given
   head_transforms accepted runnable tangent_runnable told wanted.Tangent text back bytes few reads given = head_tangents accepted tangent_runnable told text back bytes reads given
   head_transforms accepted runnable tangent_runnable told wanted.Plan text back bytes few reads given = tt

@@ -3,7 +3,7 @@ use Rattle.std.specs.Prelude.{◌≡◌, ℕ, nat_lt, Bool, true, false, List, l
 use Rattle.adj_tree.specs.Code.{Procedure}
 use Rattle.adj_tree.specs.declared.fault.Refusal.{Refusal}
 use Rattle.adj_tree.specs.declared.marks.Head.{Head}
-use Rattle.def_text.specs.Reads.{Reads}
+use Rattle.def_common.specs.Source.{ReadsLowered, KeepsRuns}
 use Rattle.def_text.specs.Text.{text_of}
 use Rattle.def_text.specs.declared.mode.Mode.TheVariants.{Source, Run}
 use Rattle.def_meaning.specs.Written.{find_unit}
@@ -89,7 +89,9 @@ AnswersCheck r vars outvars bytes a = AnswersSizedCheck (nat_lt most_bytes (leng
 -- run never traps; and the products that are told are equal
 pub record ChecksAdjoint (r : Asked) (vars outvars : List (List ℕ)) (bytes text : List ℕ) : Type 0 where
   pub source : List Procedure
-  pub reads : Reads bytes source
+  pub reads : ReadsLowered bytes source
+  -- which does what the text does with its blocks
+  pub keeps : KeepsRuns reads.shared
   pub sides : Sides
   pub are_sides : AreSides source r.head (head_of source r.head vars outvars) sides
   pub runs : RunsAdjoint are_sides.marks source r.head (flags_of vars sides.head.dummies) (flags_of outvars sides.head.dummies) sides.emitted

@@ -3,6 +3,7 @@ use Rattle.std.specs.Prelude.{◌≡◌, ℕ, List, map, Bool, true, Some}
 use Rattle.adj_tree.specs.Code.{Procedure}
 use Rattle.adj_tree.specs.Lines.{unlined}
 use Rattle.def_text.specs.Reads.{Reads}
+use Rattle.def_common.specs.Source.{ReadsLowered, KeepsRuns}
 use Rattle.def_text.specs.ReadsAs.{ReadsAs}
 use Rattle.def_text.specs.Text.{text_of}
 use Rattle.def_text.specs.declared.mode.Mode.TheVariants.{Run}
@@ -63,11 +64,13 @@ pub record RunsAdjoint (m : ProgramMarks) (ps : List Procedure) (name : List ℕ
   -- with the number of variables that a unit of the kernel has at most: within 100 * (weight + variables) * (calls + 2) * (repetitions + 2)
   pub spends_within : (weight count calls : ℕ) → EachUnit (λ u. WeighsAtMost weight u.body) (kernel_of ps) → HaveVariables count (kernel_of ps) → CallsWithin (kernel_of ps) name calls → KernelSpendsWithin (lines_by ps m) m ps name weight count calls qs
 
--- the bytes that were read are a program, whose unit of the name asked for is the head; the bytes that were written are a program too, and the
+-- the bytes that were read are a program, in which members of blocks are dummies, and whose unit of the name asked for is the head; the bytes that were written are a program too, and the
 -- canonical text of that program; and it has no fault as one that is run
 pub record Rewrites (r : Request) (bytes written : List ℕ) : Type 0 where
   pub source : List Procedure
-  pub reads : Reads bytes source
+  pub reads : ReadsLowered bytes source
+  -- each unit's run in it is its run with blocks, on words and on words with tangents: so what is said of the program's runs is said of the text's
+  pub keeps : KeepsRuns reads.shared
   pub unit : Procedure
   pub is_head : find_unit source r.head ≡ Some unit
   -- what the written bytes are, with the lines at which its units and statements stand there

@@ -2,15 +2,16 @@
 
 ghost use Rattle.std.specs.Prelude.{◌≡◌, ◌≤◌, ◌∷◌, [], ℕ, List, None, Ok, length, IfOk};
 ghost use Rattle.adj_tree.specs.View.{procedures_of};
-ghost use Rattle.def_text.specs.Reads.{Reads};
+ghost use Rattle.def_common.specs.Source.{ReadsLowered};
 ghost use Rattle.def_text.specs.Written.{IsWritten};
+ghost use Rattle.adj_symbols.specs.Checked.{IsWrittenIfNamed};
 ghost use Rattle.def_text.specs.declared.mode.Mode.TheVariants.{Source};
 ghost use Rattle.def_names.specs.Check.{IsSound};
 ghost use Rattle.def_names.specs.Fault.{source_rules};
 ghost use Rattle.def_names.specs.HeadFaults.{first_head_fault, head_of, unit_number};
 ghost use Rattle.law_kernel.specs.Sound.{IsAccepted};
 ghost use Rattle.def_kernel.specs.Stepped.{kernel_of};
-ghost use Rattle.adj_parse.specs.Trees.{program_of};
+ghost use Rattle.def_refused.specs.TextFaults.{program_of};
 ghost use Rattle.adj_tool_answer.specs.Views.{answer_of};
 ghost use Rattle.adj_tool.specs.Answer.{AnswersAccepted, AnswersChecked, AnswersFitted, AnswersProgram, AnswersWanted, most_bytes, too_large};
 ghost use Rattle.adj_tool.specs.Fitting.{kernel_fits};
@@ -102,7 +103,7 @@ fn answer_head(
     requires sound_head { let r = request_of request.now in first_head_fault (procedures_of program.program) r.head r.vars r.outvars ≡ None }
     requires head { let r = request_of request.now in head ≡ head_of (procedures_of program.program) r.head r.vars r.outvars }
     ensures answer { IfOk result (λ a. AnswersAccepted wanted (procedures_of program.program) request.now.head head (answer_of a)) }
-    ensures transformed { IfOk result (λ a. (bytes : List ℕ) → length bytes ≤ most_bytes → Reads bytes (procedures_of program.program) → program_of Source bytes ≡ Ok (procedures_of program.program) → IsTransformed wanted (request_of request.now) bytes (answer_of a)) }
+    ensures transformed { IfOk result (λ a. (bytes : List ℕ) → length bytes ≤ most_bytes → ReadsLowered bytes (procedures_of program.program) → program_of Source bytes ≡ Ok (procedures_of program.program) → IsTransformed wanted (request_of request.now) bytes (answer_of a)) }
 {
     emitted_law();
     limits_law();
@@ -121,7 +122,7 @@ fn answer_checked(
     requires written { IsWritten (procedures_of checked.program) }
     requires sound { IsSound source_rules (procedures_of checked.program) }
     ensures answer { IfOk result (λ a. AnswersChecked None wanted (request_of request.now) (procedures_of checked.program) (answer_of a)) }
-    ensures transformed { IfOk result (λ a. (bytes : List ℕ) → length bytes ≤ most_bytes → Reads bytes (procedures_of checked.program) → program_of Source bytes ≡ Ok (procedures_of checked.program) → IsTransformed wanted (request_of request.now) bytes (answer_of a)) }
+    ensures transformed { IfOk result (λ a. (bytes : List ℕ) → length bytes ≤ most_bytes → ReadsLowered bytes (procedures_of checked.program) → program_of Source bytes ≡ Ok (procedures_of checked.program) → IsTransformed wanted (request_of request.now) bytes (answer_of a)) }
 {
     let vars = request.vars.as_slice();
     let outvars = request.outvars.as_slice();
@@ -139,9 +140,9 @@ pub(crate) fn answer_program(
     request: &Request,
     program: Program,
 ) -> Result<Answer, Memory>
-    requires { IsWritten (procedures_of program) }
+    requires { IsWrittenIfNamed (procedures_of program) }
     ensures answer { IfOk result (λ a. AnswersProgram wanted (request_of request.now) (procedures_of program) (answer_of a)) }
-    ensures transformed { IfOk result (λ a. (bytes : List ℕ) → length bytes ≤ most_bytes → Reads bytes (procedures_of program) → program_of Source bytes ≡ Ok (procedures_of program) → IsTransformed wanted (request_of request.now) bytes (answer_of a)) }
+    ensures transformed { IfOk result (λ a. (bytes : List ℕ) → length bytes ≤ most_bytes → ReadsLowered bytes (procedures_of program) → program_of Source bytes ≡ Ok (procedures_of program) → IsTransformed wanted (request_of request.now) bytes (answer_of a)) }
 {
     match check(alloc, program, Mode::Source) {
         Ok(checked) => answer_checked(alloc, wanted, request, checked),
@@ -152,7 +153,8 @@ pub(crate) fn answer_program(
 
 /// The answer to an input within the limit. Here the way of a text begins:
 ///
-/// 1. `read` (adj_tool_answer) makes lines, statements and trees of the bytes: a `Program`, or the first fault of the text.
+/// 1. `read` (adj_tool_answer) makes lines, statements and trees of the bytes, and dummies of the members of blocks: a `Program`, or the first
+///    fault of the text.
 /// 2. `check` (adj_symbols) makes it a `Checked`: its names, calls, chains and writes have no fault.
 /// 3. `head` (adj_symbols) finds the unit that is asked for, with its independents and its dependents.
 /// 4. `checked_kernel` (adj_norm) writes the kernel, and checks it: one more `Checked`. The program is let go.

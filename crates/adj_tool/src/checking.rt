@@ -3,13 +3,13 @@
 ghost use Rattle.std.specs.Prelude.{◌≡◌, ◌≤◌, None, Ok, length, IfOk, IsErrOf};
 ghost use Rattle.adj_io.specs.Faults.{Rose};
 ghost use Rattle.adj_tree.specs.View.{procedures_of};
-ghost use Rattle.def_text.specs.Reads.{Reads};
-ghost use Rattle.def_text.specs.Written.{IsWritten};
+ghost use Rattle.def_common.specs.Source.{ReadsLowered};
+ghost use Rattle.adj_symbols.specs.Checked.{IsWrittenIfNamed};
 ghost use Rattle.def_text.specs.declared.mode.Mode.TheVariants.{Source};
 ghost use Rattle.def_names.specs.Check.{IsSound};
 ghost use Rattle.def_names.specs.Fault.{source_rules};
 ghost use Rattle.def_names.specs.HeadFaults.{first_head_fault, head_of};
-ghost use Rattle.adj_parse.specs.Trees.{program_of};
+ghost use Rattle.def_refused.specs.TextFaults.{program_of};
 ghost use Rattle.adj_tool_answer.specs.Views.{answer_of};
 ghost use Rattle.adj_tool_answer.specs.EndingViews.{asked_of};
 ghost use Rattle.adj_tool.specs.Answer.{most_bytes};
@@ -43,7 +43,7 @@ fn answer_head(
     requires sound_head { first_head_fault (procedures_of program.now.program) request.now.run.head request.now.vars request.now.outvars ≡ None }
     requires head { head ≡ head_of (procedures_of program.now.program) request.now.run.head request.now.vars request.now.outvars }
     requires given { program_of Source bytes.now ≡ Ok (procedures_of program.now.program) }
-    requires reads { Reads bytes.now (procedures_of program.now.program) }
+    requires reads { ReadsLowered bytes.now (procedures_of program.now.program) }
     requires few { length bytes.now ≤ most_bytes }
     ensures answer { IfOk result (λ a. AnswersAcceptedCheck (asked_of request.now.run) bytes.now (procedures_of program.now.program) head (answer_of a)) }
     ensures compared { IfOk result (λ a. IsCompared (asked_of request.now.run) request.now.vars request.now.outvars bytes.now (answer_of a)) }
@@ -80,7 +80,7 @@ fn answer_checked(
 ) -> Result<Answer, Memory>
     requires sound { IsSound source_rules (procedures_of program.now.program) }
     requires given { program_of Source bytes.now ≡ Ok (procedures_of program.now.program) }
-    requires reads { Reads bytes.now (procedures_of program.now.program) }
+    requires reads { ReadsLowered bytes.now (procedures_of program.now.program) }
     requires few { length bytes.now ≤ most_bytes }
     ensures answer { IfOk result (λ a. AnswersSoundCheck (asked_of request.now.run) request.now.vars request.now.outvars bytes.now (procedures_of program.now.program) (answer_of a)) }
     ensures compared { IfOk result (λ a. IsCompared (asked_of request.now.run) request.now.vars request.now.outvars bytes.now (answer_of a)) }
@@ -101,9 +101,9 @@ fn answer_program(
     program: Program,
     bytes: &[u8],
 ) -> Result<Answer, Memory>
-    requires written { IsWritten (procedures_of program) }
+    requires written { IsWrittenIfNamed (procedures_of program) }
     requires given { program_of Source bytes.now ≡ Ok (procedures_of program) }
-    requires reads { Reads bytes.now (procedures_of program) }
+    requires reads { ReadsLowered bytes.now (procedures_of program) }
     requires few { length bytes.now ≤ most_bytes }
     ensures answer { IfOk result (λ a. AnswersTextCheck (asked_of request.now.run) request.now.vars request.now.outvars bytes.now (Ok (procedures_of program)) (answer_of a)) }
     ensures compared { IfOk result (λ a. IsCompared (asked_of request.now.run) request.now.vars request.now.outvars bytes.now (answer_of a)) }

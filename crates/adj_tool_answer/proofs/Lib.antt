@@ -2,3 +2,4 @@
 pub mod Telling
 pub mod Sized
 pub mod Heads
+pub mod BlocksKept

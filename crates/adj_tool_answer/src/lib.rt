@@ -1,4 +1,4 @@
-//! What a text is as a program, and what commands write: refusals, faults of data, and how runs end.
+//! What a text is as a program, with its blocks lowered, and what commands write: refusals, faults of data, and how runs end.
 //!
 //! `read` gives the program of a text in a mode, or its first fault. `Answer` is a text with its status; `refused`, `usage`, `no_input` and
 //! `stopped` make one. The layers above use that each is what docs/COMMANDS.md says.

@@ -12,7 +12,7 @@ use Rattle.def_meaning.specs.Written.{find_unit}
 use Rattle.def_names.specs.Fault.{first_of}
 use Rattle.def_names.specs.HeadFaults.{first_head_fault, faults_of_head}
 use Rattle.def_text.specs.OrTooMany.{OrTooMany}
-use Rattle.adj_parse.specs.Trees.{program_of}
+use Rattle.def_refused.specs.TextFaults.{program_of}
 use Rattle.def_adjoint.specs.Adjoint.{IsAdjointOf}
 use Rattle.adj_tool_check.specs.Emitted.{or_itself, read_back, IsRunnable, IsEmittedFor}
 use Rattle.adj_tool_check.specs.Agreeing.{IsAdjointSide}

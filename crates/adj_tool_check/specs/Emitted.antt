@@ -16,7 +16,7 @@ use Rattle.def_sweep.specs.Reversals.{ReversedLines}
 use Rattle.def_kernel.specs.Stepped.{kernel_of}
 use Rattle.def_adjoint.specs.Adjoint.{HaveOwnNames, IsAdjointOf}
 use Rattle.def_text.specs.OrTooMany.{OrTooMany}
-use Rattle.adj_parse.specs.Trees.{program_of}
+use Rattle.def_refused.specs.TextFaults.{program_of}
 
 abbrev pub or_itself : List Procedure → Result (List Procedure) Refusal → List Procedure
 or_itself qs (Ok read) = read

@@ -2,7 +2,7 @@
 
 ghost use Rattle.std.specs.Prelude.{◌≡◌, ◌<◌, [], IfOk, None, length, slice_get};
 ghost use Rattle.adj_tree.specs.View.{procedures_of};
-ghost use Rattle.def_text.specs.Written.{IsWritten};
+ghost use Rattle.adj_symbols.specs.Checked.{IsWrittenIfNamed};
 ghost use Rattle.def_meaning.specs.Written.{find_unit};
 ghost use Rattle.def_names.specs.Check.{IsSound};
 ghost use Rattle.def_names.specs.Fault.{run_rules};
@@ -28,7 +28,7 @@ pub struct Emitted {
 fn read_again(alloc: Global, program: Program) -> Result<Program, Memory>
     requires { IsRunnable (procedures_of program) }
     ensures same { IfOk result (λ p. procedures_of p ≡ read_back (procedures_of program)) }
-    ensures written { IfOk result (λ p. IsWritten (procedures_of p)) }
+    ensures written { IfOk result (λ p. IsWrittenIfNamed (procedures_of p)) }
     ensures sound { IfOk result (λ p. IsSound run_rules (procedures_of p)) }
 {
     let text = text(alloc, &program)?;

@@ -3,7 +3,7 @@
 ghost use Rattle.std.specs.Prelude.{◌≡◌, ◌<◌, ◌≤◌, None, Some, Ok, length, map, slice_get, true, IfOk};
 ghost use Rattle.adj_tree.specs.Code.{Procedure};
 ghost use Rattle.adj_tree.specs.View.{procedures_of};
-ghost use Rattle.def_text.specs.Written.{IsWritten};
+ghost use Rattle.adj_symbols.specs.Checked.{IsWrittenIfNamed};
 ghost use Rattle.def_meaning.specs.Numbers.{words};
 ghost use Rattle.def_meaning.specs.Units.{fits};
 ghost use Rattle.def_meaning.specs.Written.{find_unit};
@@ -119,7 +119,7 @@ fn answer_program(
     bytes: &[u8],
     program: Program,
 ) -> Result<Answer, Memory>
-    requires { IsWritten (procedures_of program) }
+    requires { IsWrittenIfNamed (procedures_of program) }
     ensures { IfOk result (λ a. AnswersText (asked_of request.now) vars.now outvars.now bytes.now (Ok (procedures_of program)) (answer_of a)) }
 {
     match check(alloc, program, Mode::Source) {

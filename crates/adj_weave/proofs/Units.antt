@@ -27,10 +27,12 @@ use Rattle.law_emitted.proofs.Over.{OverCode, Any}
 use Rattle.law_emitted.proofs.Tables.{among, has_var, plain_known}
 use Rattle.law_emitted.proofs.Used.{used_helpers_with}
 use Rattle.law_emitted.proofs.Apart.{VarsApart, used_apart_with}
-use Rattle.law_emitted.proofs.MadeNames.{follows_by}
 use Rattle.law_emitted.proofs.Sources.{each_name, UnitSound, all_named}
 use Rattle.law_emitted.proofs.NameFaults.{NamesSound, all_names_sound}
-use Rattle.law_emitted.proofs.AdjointNames.{body_holds}
+use Rattle.law_emitted.proofs.Calling.{none_split}
+use Rattle.law_emitted.proofs.Makings.{as_adjoint}
+use Rattle.law_emitted.proofs.Following.{follows_any}
+use Rattle.law_emitted.proofs.MakingFaults.{body_holds}
 use Rattle.adj_naming.specs.declared.names.Names.{Names}
 use Rattle.adj_naming.specs.Sets.{has_variable, AreDifferent}
 use Rattle.adj_naming.specs.Table.{table_of, named_by}
@@ -90,8 +92,9 @@ module _ (sb : Bool) (m : ProgramMarks) (unsplit : SplitsNothing m) (ps : List P
   over =
       let s = sound.0 in
       let n = sound.1 in
-      let f = follows_by m ps (all_named run_rules ps checked) u unsplit (schedules_in sb ps) (first_statement ps u.name) u.body s.calls shadows in
-      body_holds sb m ps units u s.written s.kernel s.free s.calls f n.dummies_once n.extent_dummy n.extents n.stands at_turn at_end (marked at_turn turned) (marked at_end ended) Any f
+      let k = as_adjoint at_turn at_end in
+      let f = follows_any sb m ps (all_named run_rules ps checked) u s shadows (none_split (schedules_in sb ps) m.adjointed m.split unsplit (first_statement ps u.name) u.body) k in
+      body_holds sb m ps units u s n k (marked at_turn turned, marked at_end ended) Any f
 
   -- the names of the text are kept
   pub body_same : (n : Names) → table_of n ≡ ns → rename (named_by n) body ≡ rename (naming ns) body

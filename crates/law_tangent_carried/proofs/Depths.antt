@@ -8,7 +8,8 @@ use Rattle.def_names.specs.Numbers.{Vars}
 use Rattle.def_sweep.specs.Marked.{code_if, count_of, names_in}
 use Rattle.def_sweep.specs.Naming.{naming}
 use Rattle.def_sweep.specs.Declared.{unit_name, unmarked, unit_at}
-use Rattle.def_sweep.specs.AdjointOf.{is_active_where, has_own_where, temps_in_where, temps_where}
+use Rattle.def_sweep.specs.Occurrences.{is_active_where}
+use Rattle.def_sweep.specs.AdjointOf.{has_own_where, temps_in_where, temps_where}
 use Rattle.def_sweep.specs.Plan.{names_of}
 use Rattle.def_sweep.specs.Bindings.{Bindings, bindings, actuals_in}
 use Rattle.def_sweep.specs.Marking.{arrays_of}

@@ -26,7 +26,6 @@ use Rattle.adj_reach.proofs.Members.{is_first, is_later}
 use Rattle.def_flow.proofs.OwnPoints as points
 use Rattle.def_flow.proofs.Placed.{way_of_statement}
 use Rattle.def_flow.proofs.Sets.{left_in, left_out, left_make}
-use Rattle.law_analysed.proofs.Occurring.{same_occurring}
 use Rattle.law_analysed.proofs.Lists.{ends}
 use Rattle.law_analysed.proofs.Numbers.{Placed, placed, has_part}
 use Rattle.law_analysed.proofs.Given.{bound_has, passed_among}
@@ -87,7 +86,7 @@ module _ (k : Problem) (f : ℕ → Vars) (on : ℕ → Vars) (is : IsCarrying k
           covers = covers g part (point_before i) (points.own_before g s c);
           carries = λ h. covers g part (point_after i) (points.own_after g s c) x h;
           stays = w.varies;
-          goes = λ v o h. (is.varied (point_after i) x).1 (leads ((is.varied (point_before i) v).0 h) (flow.assigned part c refl (sym (same_occurring e v) ∙ o)));
+          goes = λ v o h. (is.varied (point_after i) x).1 (leads ((is.varied (point_before i) v).0 h) (flow.assigned part c refl o));
         }
 
     assigned : (i : ℕ) (at : Place) (x : Var) (subs : Terms) (e : Term) → AllOwnWays (act_ways i (assign x subs e)) → OwnAct i at (assign x subs e) → AssignmentFlows f own i x subs e

@@ -6,7 +6,8 @@ use Rattle.def_meaning.specs.Append.{◌+++◌, one}
 use Rattle.def_names.specs.Standing as standing
 use Rattle.def_names.specs.Numbers.{Vars}
 use Rattle.def_sweep.specs.Marked.{code_if, count_of, own_or}
-use Rattle.def_sweep.specs.AdjointOf.{is_active_where, has_own_where, temps_in_where, temps_where}
+use Rattle.def_sweep.specs.Occurrences.{is_active_where}
+use Rattle.def_sweep.specs.AdjointOf.{has_own_where, temps_in_where, temps_where}
 use Rattle.law_emitted.proofs.Over.{OverTerm, OverPlace, OverCode, over_append}
 use Rattle.law_emitted.proofs.Terms.{own_or_over, temps_over}
 use Rattle.def_tangent.specs.TangentOf.{parts_in_where, tangent_term, sum_of, difference_of, own_part, parts_where, before_assignment}

@@ -8,7 +8,8 @@ use Rattle.def_names.specs.Standing as standing
 use Rattle.def_names.specs.Reserved.{is_runtime}
 use Rattle.def_names.specs.Numbers.{Vars}
 use Rattle.def_sweep.specs.Marked.{code_if}
-use Rattle.def_sweep.specs.AdjointOf.{is_active_where, temps_in_where}
+use Rattle.def_sweep.specs.Occurrences.{is_active_where}
+use Rattle.def_sweep.specs.AdjointOf.{temps_in_where}
 use Rattle.def_sweep.specs.Plan.{names_of}
 use Rattle.def_sweep.specs.Bindings.{bindings, actuals_in}
 use Rattle.law_emitted.proofs.Lists.{Each}

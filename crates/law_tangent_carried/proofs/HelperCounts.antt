@@ -5,7 +5,8 @@ use Rattle.adj_tree.specs.Code.{plus, minus, times, quot, modulo, greater, lesse
 use Rattle.adj_tree.specs.Size.{term_depth}
 use Rattle.def_names.specs.Numbers.{Vars}
 use Rattle.def_sweep.specs.Marked.{count_of}
-use Rattle.def_sweep.specs.AdjointOf.{is_active_where, temps_in_where}
+use Rattle.def_sweep.specs.Occurrences.{is_active_where}
+use Rattle.def_sweep.specs.AdjointOf.{temps_in_where}
 use Rattle.law_emitted.specs.Emitted.{act_deepest, deepest}
 use Rattle.law_limits.proofs.HelperCounts.{works_if, grown, one_more, joined, raised, some, term_temps}
 use Rattle.def_tangent.specs.TangentOf.{parts_in_where}

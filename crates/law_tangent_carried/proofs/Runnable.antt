@@ -20,7 +20,7 @@ use Rattle.law_emitted.proofs.Premises.{found}
 use Rattle.law_emitted.proofs.Sources.{UnitSound}
 use Rattle.law_emitted.proofs.NameFaults.{NamesSound, all_names_sound}
 use Rattle.law_emitted.proofs.Kernels.{kernel_checked}
-use Rattle.adj_parse.specs.Trees.{program_of}
+use Rattle.def_refused.specs.TextFaults.{program_of}
 use Rattle.law_limits.specs.Rule.{keeps}
 use Rattle.law_limits.specs.Kept.{short_names}
 use Rattle.law_limits.specs.Reading.{KeptReads, SourceIsKept}
@@ -44,7 +44,7 @@ use Rattle.law_tangent_carried.proofs.ShortTangents.{DeclaresAll, emitted_short}
 
 pub tangent_shallow : SourceIsKept → TangentIsShallow
 tangent_shallow source bytes ps h c head vars =
-    let kept = (source bytes ps h).kept in
+    let kept = source bytes ps h in
     let two : 2 ≤ 100 = omega arith in
     let deep : 104 < 120 = omega arith in
     let most : 31 ≤ 45 = omega arith in

@@ -14,7 +14,7 @@ use Rattle.def_tangent.specs.Program.{Carried, tangent_program}
 use Rattle.def_flow.specs.Carried.{IsCarrying, carried_by}
 use Rattle.law_kernel.specs.Sound.{IsAccepted}
 use Rattle.law_limits.specs.Limits.{IsShallow}
-use Rattle.adj_parse.specs.Trees.{program_of}
+use Rattle.def_refused.specs.TextFaults.{program_of}
 
 -- what is emitted for the kernel of a program that a text gives in Source mode is no deeper, and nested no deeper, than a run takes
 abbrev pub TangentIsShallow : Type 0

@@ -2,12 +2,11 @@
 
 ghost use Rattle.std.specs.Prelude.{◌≡◌, IfOk, map};
 ghost use Rattle.adj_tree.specs.View.{procedures_of};
-ghost use Rattle.def_text.specs.Written.{IsWritten};
+ghost use Rattle.adj_symbols.specs.Checked.{IsWrittenIfNamed};
 
 use adj_activity::{activity, flow};
-use adj_fixed::{Mode, statements};
+use adj_fixed::Mode;
 use adj_flow::{Flow, Part};
-use adj_parse::program;
 use adj_symbols::{Checked, check};
 use adj_tree::{Activity, Fault, Flags, Head, Memory, NameList, Program};
 use std::alloc::Global;
@@ -15,11 +14,9 @@ use std::test::Fail;
 
 // The program of a text.
 pub(crate) fn read(alloc: Global, source: &[u8]) -> Result<Program, Fault>
-    ensures written { IfOk result (λ p. IsWritten (procedures_of p)) }
+    ensures written { IfOk result (λ p. IsWrittenIfNamed (procedures_of p)) }
 {
-    let stated = statements(alloc, source, Mode::Source)?;
-    let program = program(alloc, stated.as_slice(), Mode::Source)?;
-    Ok(program)
+    adj_tool_answer::read(alloc, source, Mode::Source)
 }
 
 // The variables of each unit.

@@ -2,10 +2,9 @@
 
 ghost use Rattle.std.specs.Prelude.{◌≡◌, IfOk};
 ghost use Rattle.adj_tree.specs.View.{procedures_of};
-ghost use Rattle.def_text.specs.Written.{IsWritten};
+ghost use Rattle.adj_symbols.specs.Checked.{IsWrittenIfNamed};
 
-use adj_fixed::{Mode, statements};
-use adj_parse::program;
+use adj_fixed::Mode;
 use adj_symbols::{Checked, check};
 use adj_tree::{Fault, Program};
 use std::alloc::Global;
@@ -21,11 +20,9 @@ const TWO_UNITS: &[u8] = b"      SUBROUTINE P(I,J)
 ";
 
 fn read(alloc: Global, bytes: &[u8]) -> Result<Program, Fault>
-    ensures written { IfOk result (λ p. IsWritten (procedures_of p)) }
+    ensures written { IfOk result (λ p. IsWrittenIfNamed (procedures_of p)) }
 {
-    let stated = statements(alloc, bytes, Mode::Source)?;
-    let program = program(alloc, stated.as_slice(), Mode::Source)?;
-    Ok(program)
+    adj_tool_answer::read(alloc, bytes, Mode::Source)
 }
 
 fn checked_text(alloc: Global, bytes: &[u8]) -> Result<Checked, Fault> {

@@ -5,6 +5,8 @@
 #[cfg(test)]
 mod columns;
 #[cfg(test)]
+mod common;
+#[cfg(test)]
 mod counting;
 #[cfg(test)]
 mod grouping;

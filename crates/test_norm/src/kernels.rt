@@ -1,5 +1,6 @@
 //! Texts, and the kernels of their programs.
 
+use adj_common::lower_common;
 use adj_fixed::{Mode, statements};
 use adj_norm::kernel;
 use adj_parse::program;
@@ -11,7 +12,7 @@ use std::alloc::Global;
 pub(crate) fn read(alloc: Global, source: &[u8]) -> Result<Program, Fault> {
     let stated = statements(alloc, source, Mode::Source)?;
     let read = program(alloc, stated.as_slice(), Mode::Source)?;
-    Ok(read)
+    lower_common(alloc, read)
 }
 
 // The text of the kernel of a program that is read from a text.

@@ -3,11 +3,11 @@
 ghost use Rattle.std.specs.Prelude.{◌≡◌, IfOk, length, map, true};
 ghost use Rattle.test_run.specs.Scalars.{scalar_of};
 
-use adj_fixed::{Mode, statements};
+use adj_fixed::Mode;
 use adj_interp::{Log, Stop, run};
-use adj_parse::program;
 use adj_symbols::{Checked, check};
 use adj_tape::Tape;
+use adj_tool_answer::read;
 use adj_tree::{Fault, Items, Memory, Slot, Trap, Unit, Values};
 use std::alloc::Global;
 use std::test::Fail;
@@ -29,8 +29,7 @@ pub(crate) fn checked(alloc: Global, text: &str) -> Result<Checked, Fault> {
         bytes.extend_from_slice(line.as_bytes())?;
         bytes.push(b'\n')?;
     }
-    let stated = statements(alloc, bytes.as_slice(), Mode::Run)?;
-    let program = program(alloc, stated.as_slice(), Mode::Run)?;
+    let program = read(alloc, bytes.as_slice(), Mode::Run)?;
     check(alloc, program, Mode::Run)
 }
 

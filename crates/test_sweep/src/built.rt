@@ -1,5 +1,6 @@
 //! The statements of a text, the names of a unit, and the text of what is emitted.
 
+use adj_common::lower_common;
 use adj_fixed::{Mode, statements};
 use adj_naming::helper_set::HelperSet;
 use adj_naming::names::Names;
@@ -16,7 +17,7 @@ pub(crate) fn read(alloc: Global, lines: &str) -> Result<Program, Fault> {
     let all = format!(in alloc; "      SUBROUTINE P\n{lines}      END\n")?;
     let stated = statements(alloc, all.as_bytes(), Mode::Source)?;
     let read = program(alloc, stated.as_slice(), Mode::Source)?;
-    Ok(read)
+    lower_common(alloc, read)
 }
 
 fn name(alloc: Global, text: &[u8]) -> Result<Name, Memory> {

@@ -2,7 +2,7 @@
 
 ghost use Rattle.std.specs.Prelude.{IfOk};
 ghost use Rattle.adj_tree.specs.View.{procedures_of};
-ghost use Rattle.def_text.specs.Written.{IsWritten};
+ghost use Rattle.adj_symbols.specs.Checked.{IsWrittenIfNamed};
 
 use crate::read::refused;
 use adj_fixed::Mode;
@@ -40,7 +40,7 @@ const TEXTS: [(&[u8], usize, &[u8]); 8] = [
 
 // The answer for a program or a fault.
 fn told(alloc: Global, found: Result<Program, Fault>) -> Result<Vec<u8>, Memory>
-    requires written { IfOk found (λ p. IsWritten (procedures_of p)) }
+    requires written { IfOk found (λ p. IsWrittenIfNamed (procedures_of p)) }
 {
     match found {
         Ok(program) => text(alloc, &program),

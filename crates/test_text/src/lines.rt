@@ -83,6 +83,7 @@ const TEXTS: [(&str, &str); 4] = [
         "C a comment\r
       IMPLICIT NONE\r
       INTEGER*08 A_1,B(3)
+      Common / b_1 / A _ 1 , K(2)
 c$ad  Binomial-Ckp 07
 
 * another
@@ -106,20 +107,21 @@ $DATA
       GOTO 10",
         "2 0 0 ImplicitNone:
 3 0 0 Integer: A_1 , B ( 3 )
-7 0 7 Do: 10 , I = A ( 1 ) , 2
-8 10 0 Continue:
-11 0 0 BlockIf: ( A .LT. ( B ) )
-12 0 0 ElseIf: ( .NOT. A .GE. 1 .AND. B .EQ. 2 )
-13 0 0 Else:
-14 0 0 EndIf:
-15 0 0 LogicalIf: ( A .NE. B .OR. C .LE. D ) keyword CALL P ( X )
-16 0 0 LogicalIf: ( A .GT. B ) CALL = 2
-17 0 0 Assign: IF ( A ) = B ** 2 * 3 / 4 - 5
-18 0 0 Assign: DOI = 1
-19 0 0 Assign: DOWHILE = 1
-20 0 0 EndDo:
-21 0 0 Call: P
-22 0 0 End:
+4 0 0 Common: / B_1 / A_1 , K ( 2 )
+8 0 7 Do: 10 , I = A ( 1 ) , 2
+9 10 0 Continue:
+12 0 0 BlockIf: ( A .LT. ( B ) )
+13 0 0 ElseIf: ( .NOT. A .GE. 1 .AND. B .EQ. 2 )
+14 0 0 Else:
+15 0 0 EndIf:
+16 0 0 LogicalIf: ( A .NE. B .OR. C .LE. D ) keyword CALL P ( X )
+17 0 0 LogicalIf: ( A .GT. B ) CALL = 2
+18 0 0 Assign: IF ( A ) = B ** 2 * 3 / 4 - 5
+19 0 0 Assign: DOI = 1
+20 0 0 Assign: DOWHILE = 1
+21 0 0 EndDo:
+22 0 0 Call: P
+23 0 0 End:
 ",
     ),
     (
@@ -241,6 +243,10 @@ const STATEMENTS: &[(&str, u8, u32)] = &[
     ("      GOTO (10", 3, 1),
     ("      REAL X", 3, 1),
     ("      SAVE", 3, 1),
+    ("      COMMON", 3, 1),
+    ("      COMMON X", 3, 1),
+    ("      COMMON B/X/", 3, 1),
+    ("      IF (A.GT.0) COMMON X", 3, 1),
     ("      CONTINUE1", 3, 1),
     ("      A(=1", 3, 1),
     ("      INTEGER*4X", 3, 1),
@@ -260,6 +266,8 @@ const STATEMENTS: &[(&str, u8, u32)] = &[
     ("      X=(1", 4, 1),
     ("      CALL P(X", 4, 1),
     ("      X=_A", 4, 1),
+    ("      COMMON/_B/X", 4, 1),
+    ("      COMMON/B/X(", 4, 1),
     ("      X=.TRUE.", 4, 1),
     ("      X=1.E5", 4, 1),
     ("      IF (A.XX.B) Y=1", 4, 1),
@@ -303,6 +311,9 @@ const DIRECTIVES: &[(&str, u8, u32)] = &[
     // None: what a later pass looks at, columns past 72, and what stands behind the data's line.
     ("      DO10I=(1,2)", 0, 0),
     ("      IF (A) CONTINUE", 0, 0),
+    ("      COMMON//X", 0, 0),
+    ("      COMMON/B/X,/C/Y", 0, 0),
+    ("      COMMON/B/X=1", 0, 0),
     ("C$AD BINOMIAL-CKP 64  \n      X=1", 0, 0),
     ("C$AD BINOMIAL-CKP N\nC c\n      DOWHILE(I=1,2)", 0, 0),
     ("      X=1\n$DATA\nX", 0, 0),

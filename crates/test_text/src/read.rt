@@ -2,21 +2,18 @@
 
 ghost use Rattle.std.specs.Prelude.{◌≡◌, IfOk};
 ghost use Rattle.adj_tree.specs.View.{procedures_of};
-ghost use Rattle.def_text.specs.Written.{IsWritten};
+ghost use Rattle.adj_symbols.specs.Checked.{IsWrittenIfNamed};
 
-use adj_fixed::{Mode, statements};
-use adj_parse::program;
+use adj_fixed::Mode;
 use adj_print::text;
 use adj_tree::{Fault, Memory, Program, Refusal};
 use std::alloc::Global;
 
-/// The program of a text, or the first fault of its lines, its statements or its trees.
+/// The program of a text, or the first fault of its lines, its statements, its trees or its blocks.
 pub(crate) fn read(alloc: Global, bytes: &[u8], mode: Mode) -> Result<Program, Fault>
-    ensures written { IfOk result (λ p. IsWritten (procedures_of p)) }
+    ensures written { IfOk result (λ p. IsWrittenIfNamed (procedures_of p)) }
 {
-    let stated = statements(alloc, bytes, mode)?;
-    let program = program(alloc, stated.as_slice(), mode)?;
-    Ok(program)
+    adj_tool_answer::read(alloc, bytes, mode)
 }
 
 /// The line of a refusal.

@@ -2,16 +2,15 @@
 
 ghost use Rattle.std.specs.Prelude.{◌≡◌, ◌<◌, IfOk, length, map};
 ghost use Rattle.adj_tree.specs.View.{procedures_of};
-ghost use Rattle.def_text.specs.Written.{IsWritten};
+ghost use Rattle.adj_symbols.specs.Checked.{IsWrittenIfNamed};
 ghost use Rattle.def_names.specs.Fault.{run_rules};
 ghost use Rattle.law_emitted.specs.Checked.{IsChecked};
 ghost use Rattle.adj_weave_units.specs.Flowing.{IsFlowOf};
 
 use adj_activity::{activity, flow};
-use adj_fixed::{Mode, statements};
+use adj_fixed::Mode;
 use adj_flow::Flow;
 use adj_norm_statement::is_kernel;
-use adj_parse::program;
 use adj_print::text;
 use adj_sweep::steps::MarkedLoops;
 use adj_symbols::{Checked, check};
@@ -22,11 +21,9 @@ use std::test::Fail;
 
 // The program of a text.
 pub(crate) fn read(alloc: Global, source: &[u8]) -> Result<Program, Fault>
-    ensures written { IfOk result (λ p. IsWritten (procedures_of p)) }
+    ensures written { IfOk result (λ p. IsWrittenIfNamed (procedures_of p)) }
 {
-    let stated = statements(alloc, source, Mode::Source)?;
-    let program = program(alloc, stated.as_slice(), Mode::Source)?;
-    Ok(program)
+    adj_tool_answer::read(alloc, source, Mode::Source)
 }
 
 // The variables of each unit.

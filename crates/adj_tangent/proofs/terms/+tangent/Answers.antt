@@ -4,7 +4,7 @@ use Rattle.adj_tree.specs.Code.{lit, neg, bin, times, pow}
 use Rattle.adj_tree.specs.View.{term_of}
 use Rattle.def_meaning.specs.Rename.{rename}
 use Rattle.def_sweep.specs.Marked.{is_compound, own_or}
-use Rattle.def_sweep.specs.AdjointOf.{is_active_where}
+use Rattle.def_sweep.specs.Occurrences.{is_active_where}
 use Rattle.def_tangent.specs.TangentOf.{tangent_term, sum_of, difference_of, power_factor, own_part, parts_where}
 use Rattle.adj_sweep_assignment.specs.Sites.{naming_of, active_in}
 use Rattle.adj_sweep_assignment.specs.Behind.{AreBehind}

@@ -3,6 +3,8 @@ use Rattle.std.specs.Prelude.{IfOk}
 use Rattle.std.proofs.lemmas.Option.{slice_get_within}
 use Rattle.adj_tree.specs.View.{procedures_of}
 use Rattle.def_names.specs.HeadFaults.{unit_number}
+use Rattle.def_text.specs.declared.mode.Mode.TheVariants.{Source}
+use Rattle.def_names.specs.Fault.{source_rules}
 use Rattle.law_kernel.specs.Sound.{IsAccepted}
 use Rattle.def_kernel.specs.Stepped.{kernel_of}
 use Rattle.adj_symbols.specs.Numbers.{Fits}
@@ -12,6 +14,7 @@ use Rattle.adj_tool_check.specs.Emitted.{IsEmittedFor}
 use Rattle.adj_tool.specs.Check.{Fitted, IsChecked}
 use Rattle.adj_tool.specs.Fitting.{kernel_fits}
 use Rattle.adj_tool.specs.Planned.{IsKnownFor}
+use Rattle.adj_tool_answer.proofs.BlocksKept.{blocks_kept}
 use Rattle.adj_tool.proofs.Checks as checks
 use Rattle.adj_tool.proofs.Heads.{lines_apart, head_there, kernel_head, in_kernel_form, for_kernel, fits_known}
 use Rattle.adj_tool.proofs.checking.answer_head.Goals as goal
@@ -110,4 +113,4 @@ returns-clause-compared c =
     let x = checks.emitted_for ps r.run.head h accepted (procedures_of e.program) e.adjoint e.shadowed own apart there.unit there.found c.emitted_law.ensures.reversed_runnable fits c.args.bytes.now c.requires.given in
     let is = c.in_ok-answer.ensures.answer there.unit _ (checks.unit_at ps r.run.head r.vars r.outvars c.requires.sound_head h c.requires.head)
     (checks.adjoint_there ps r.run.head h accepted (procedures_of e.program) e.adjoint e.shadowed own apart there.unit there.found x.runnable) in
-    checks.is_compared (asked_of r.run) r.vars r.outvars ps accepted c.program.ensures.facts.sound apart c.requires.sound_head h c.requires.head (procedures_of e.program) e.adjoint e.shadowed own x.runnable c.reading_law.ensures.program c.check_law.ensures.agrees c.args.bytes.now c.requires.reads (answer_of c.in_ok-answer.answer) is
+    checks.is_compared (asked_of r.run) r.vars r.outvars ps accepted c.program.ensures.facts.sound apart c.requires.sound_head h c.requires.head (procedures_of e.program) e.adjoint e.shadowed own x.runnable c.reading_law.ensures.program c.check_law.ensures.agrees c.args.bytes.now c.requires.reads (blocks_kept source_rules Source c.args.bytes.now ps c.requires.given c.requires.sound c.requires.reads) (answer_of c.in_ok-answer.answer) is

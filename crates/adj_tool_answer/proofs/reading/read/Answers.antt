@@ -1,7 +1,7 @@
 use Rattle.std.proofs.Common.{Ok, Err, subst}
 use Rattle.std.proofs.lemmas.Result.{err_from_is_err_and}
 use Rattle.adj_tree.specs.View.{procedures_of}
-use Rattle.adj_parse.specs.Trees.{program_of}
+use Rattle.def_refused.specs.TextFaults.{program_of}
 use Rattle.adj_tool_answer.specs.Programs.{AreUnits, IsProgram, Tells}
 use Rattle.adj_tool_answer.proofs.Telling.{early, late, gives}
 use Rattle.adj_tool_answer.proofs.reading.read.Goals as goal
@@ -33,3 +33,6 @@ returns-clause-is c =
 
 pub returns-clause-exact : goal.returns-clause-exact
 returns-clause-exact c = c.reading_law.ensures.only_program c.args.mode c.args.bytes.now (Ok (procedures_of c.in_ok-program.program)) (returns-clause-is c)
+
+pub returns-clause-reads : goal.returns-clause-reads
+returns-clause-reads c = (returns-clause-is c).1
