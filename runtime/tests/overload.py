@@ -1,8 +1,8 @@
 """Makes a text of the language compute with tangents: each of its words becomes one that carries its tangent, of the module in tangents.f90.
 
 A unit P becomes P_TG, in free form. Variables, the variables of DO loops among them, have the type TG_DUAL; literals become TG_NUMBER(..), and
-subscripts, bounds and extents take the value of theirs. Comments, and so the marks of loops, are left out. It is a converter for texts that the tool takes: it
-looks for no faults.
+subscripts, bounds and extents take the value of theirs. The members of a COMMON block B are the variables of a module TG_COMMON_B, by their places. Comments, and so the
+marks of loops, are left out. It is a converter for texts that the tool takes: it looks for no faults.
 """
 import re
 
@@ -61,6 +61,8 @@ class Unit:
     def __init__(self, name, dummies):
         self.name, self.dummies = name, dummies
         self.scalars, self.arrays, self.body = [], {}, []
+        # the members of each block, in order
+        self.blocks = {}
         # the open loops: the label of each, its variable, and the counter in its place
         self.loops, self.counters = [], 0
 
@@ -71,6 +73,16 @@ class Unit:
                 self.arrays[name] = extents[:-1].split(",")
             else:
                 self.scalars.append(name)
+
+    def share(self, block, items):
+        """Takes a COMMON statement: an item without extents may be declared before or after."""
+        for item in cut(items):
+            if "(" in item:
+                self.declare(item)
+        self.blocks.setdefault(block, []).extend(x.partition("(")[0] for x in cut(items))
+
+    def layout(self, block):
+        return "".join(f"TYPE(TG_DUAL) :: TG_M{k}{'(' + ','.join(self.arrays[x]) + ')' if x in self.arrays else ''}\n" for k, x in enumerate(self.blocks[block]))
 
     def value(self, text):
         return f"TG_VALUE({self.expression(text)})"
@@ -141,16 +153,23 @@ class Unit:
             self.add(text)
         elif re.match(r"INTEGER(\*8)?[A-Z]", text):
             self.declare(re.sub(r"^INTEGER(\*8)?", "", text))
+        elif text.startswith("COMMON/"):
+            self.share(*text[7:].split("/"))
         elif text.startswith("CALL"):
             self.add(self.simple(text))
         elif text not in ("IMPLICITNONE", "RETURN", "END"):
             raise ValueError(text)
 
     def text(self):
-        lines = [f"SUBROUTINE {self.name}_TG({', '.join(self.dummies)})", "USE TANGENTS", "IMPLICIT TYPE(TG_DUAL)(I-N)"]
-        lines += [f"TYPE(TG_DUAL) :: {x}" for x in self.scalars]
+        lines = [f"SUBROUTINE {self.name}_TG({', '.join(self.dummies)})", "USE TANGENTS"]
+        for block, members in self.blocks.items():
+            lines += [f"USE TG_COMMON_{block}, ONLY: {x} => TG_M{k}" for k, x in enumerate(members)]
+        lines.append("IMPLICIT TYPE(TG_DUAL)(I-N)")
+        shared = {x for members in self.blocks.values() for x in members}
+        lines += [f"TYPE(TG_DUAL) :: {x}" for x in self.scalars if x not in shared]
         for name, extents in self.arrays.items():
-            lines.append(f"TYPE(TG_DUAL) :: {name}({', '.join(x if x.isdigit() else x + '%V' for x in extents)})")
+            if name not in shared:
+                lines.append(f"TYPE(TG_DUAL) :: {name}({', '.join(x if x.isdigit() else x + '%V' for x in extents)})")
         lines += [f"INTEGER(8) :: TG_{k}" for k in range(1, self.counters + 1)]
         return "".join(x + "\n" for x in lines + self.body + ["END SUBROUTINE"])
 
@@ -163,4 +182,6 @@ def overloaded(text):
             units.append(Unit(heading[1], [x for x in (heading[3] or "").split(",") if x]))
         else:
             units[-1].take(label, statement)
-    return "".join(u.text() for u in units)
+    firsts = {block: u for u in reversed(units) for block in u.blocks}
+    modules = [f"MODULE TG_COMMON_{block}\nUSE TANGENTS\n{u.layout(block)}END MODULE\n" for block, u in firsts.items()]
+    return "".join(modules + [u.text() for u in units])
