@@ -2,7 +2,7 @@
 use Rattle.std.proofs.Common.{◌≡◌, ℕ, Bool, true, false, List, [], ◌∷◌, map, length, refl, sym, ap, ◌∙◌, if◌then◌else◌}
 use Rattle.std.specs.Prelude.{◌==◌, ◌&&◌, ◌||◌, not}
 use Rattle.adj_tree.specs.declared.unit.Decl.{Decl}
-use Rattle.adj_tree.specs.View.{extent_of, declaration_of}
+use Rattle.adj_tree.specs.View.{declaration_of}
 use Rattle.adj_tree.specs.Code.{Declaration}
 use Rattle.def_meaning.specs.Apart.{has_name}
 use Rattle.def_names.specs.Variables.{is_integer_name}

@@ -1,7 +1,7 @@
 -- Members of blocks in a unit, without the slots that they stand for.
 use Rattle.std.specs.Prelude.{◌≡◌, ◌==◌, ℕ, List, [], ◌∷◌, ◌++◌, map, length, Bool, true, Option, Some, None, if◌then◌else◌}
 use Rattle.std.specs.List.{slice_get}
-use Rattle.adj_tree.specs.Code.{Extent, Declaration, Procedure}
+use Rattle.adj_tree.specs.Code.{Extent, Declaration}
 use Rattle.adj_tree.specs.Common.{Common, Shared}
 use Rattle.def_sweep.specs.Declared.{declaration}
 use Rattle.adj_common.specs.Tables.{tabled}

@@ -1,6 +1,6 @@
 -- What calls pass for blocks, by tables.
-use Rattle.std.specs.Prelude.{ℕ, List, [], ◌∷◌, ◌++◌, map, Option, Some, None}
-use Rattle.adj_tree.specs.Code.{plain, var, Terms, none, more, Act, assign, choose, loop, during, call, runtime, Code, stop, step}
+use Rattle.std.specs.Prelude.{ℕ, List, [], ◌∷◌, ◌++◌, Option, Some, None}
+use Rattle.adj_tree.specs.Code.{plain, var, Terms, more, Act, assign, choose, loop, during, call, runtime, Code, stop, step}
 use Rattle.def_common.specs.Lowering.{behind}
 use Rattle.adj_symbols_writes.specs.Table.{value_of}
 use Rattle.adj_common.specs.Texts.{TextBlocks, at_place, name_of_block}

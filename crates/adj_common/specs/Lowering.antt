@@ -1,6 +1,6 @@
 -- Units without blocks, by tables.
 use Rattle.std.specs.Prelude.{ℕ, ◌+◌, List, [], ◌∷◌, ◌++◌, map, Option, Some, None}
-use Rattle.adj_tree.specs.Code.{Declaration, Procedure}
+use Rattle.adj_tree.specs.Code.{Procedure}
 use Rattle.adj_tree.specs.Common.{Shared}
 use Rattle.adj_sets.specs.Sets.{all_added}
 use Rattle.adj_symbols_writes.specs.Names.{names_among}

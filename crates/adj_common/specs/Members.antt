@@ -1,6 +1,5 @@
 -- The members of a unit by the blocks that it uses, and what they add to the unit.
-use Rattle.std.specs.Prelude.{ℕ, ◌==◌, List, [], ◌∷◌, ◌++◌, map, flat_map, length, Bool, true, false, not, ◌&&◌, ◌||◌, Option, Some, None, unwrap_or, if◌then◌else◌}
-use Rattle.std.specs.List.{slice_get}
+use Rattle.std.specs.Prelude.{ℕ, ◌==◌, List, [], ◌∷◌, ◌++◌, map, flat_map, length, Bool, false, not, ◌&&◌, ◌||◌, Option, Some, None, if◌then◌else◌}
 use Rattle.adj_tree.specs.Code.{name_eq, Extent, Declaration}
 use Rattle.def_names.specs.Fresh.{fresh}
 use Rattle.def_meaning.specs.Apart.{has_name}

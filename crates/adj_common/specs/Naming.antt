@@ -1,6 +1,6 @@
 -- The names in a unit's text, as they are gone through.
 use Rattle.std.specs.Prelude.{ℕ, List, [], ◌∷◌, ◌++◌, map, flat_map}
-use Rattle.adj_tree.specs.Code.{Var, plain, Runtime, push_word, pop_word, push_array, pop_array, push_control, pop_control, zero_array, begin_reversal, count_actions, give_action, end_reversal, Act, assign, choose, loop, during, call, runtime, Extent, Declaration, Procedure}
+use Rattle.adj_tree.specs.Code.{Var, plain, Runtime, push_word, pop_word, push_array, pop_array, push_control, pop_control, zero_array, begin_reversal, count_actions, give_action, end_reversal, Act, assign, choose, loop, during, call, runtime, Declaration}
 use Rattle.adj_tree.specs.Common.{Common, Shared}
 use Rattle.def_names.specs.Statements.{statements}
 use Rattle.def_names.specs.NameFaults.{extent_names}

@@ -1,5 +1,5 @@
 -- Names, each once, with the places where they stand.
-use Rattle.std.specs.Prelude.{ℕ, zero, suc, List, [], ◌∷◌, ◌++◌, map, Option, Some, None, position, if◌then◌else◌}
+use Rattle.std.specs.Prelude.{ℕ, zero, suc, List, [], ◌∷◌, ◌++◌, Option, Some, None, position, if◌then◌else◌}
 use Rattle.adj_tree.specs.Code.{name_eq}
 
 pub record Table : Type 0 where

@@ -1,7 +1,7 @@
 -- The COMMON statements of a text in one list.
 use Rattle.std.specs.Prelude.{ℕ, suc, List, [], ◌∷◌, ◌++◌, map, Option, Some, None}
 use Rattle.std.specs.List.{slice_get}
-use Rattle.adj_tree.specs.Common.{Common, Shared}
+use Rattle.adj_tree.specs.Common.{Shared}
 use Rattle.adj_common.specs.Tables.{Table, tabled}
 use Rattle.adj_common.specs.Entries.{block_names}
 

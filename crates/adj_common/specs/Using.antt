@@ -1,5 +1,5 @@
 -- Which blocks units use, by searches along calls.
-use Rattle.std.specs.Prelude.{ℕ, ◌+◌, ◌↔◌, List, [], ◌∷◌, ◌++◌, map, flat_map, Bool, Option, Some, None, IsTrue, if◌then◌else◌}
+use Rattle.std.specs.Prelude.{ℕ, ◌+◌, ◌↔◌, List, [], ◌∷◌, ◌++◌, flat_map, Bool, Option, Some, None, IsTrue, if◌then◌else◌}
 use Rattle.adj_tree.specs.Code.{Act, assign, choose, loop, during, call, runtime}
 use Rattle.adj_tree.specs.Common.{Shared}
 use Rattle.def_names.specs.Statements.{statements}

@@ -1,13 +1,13 @@
-use Rattle.std.proofs.Common.{◌≡◌, ◌++◌, map, sym, ap, ◌∙◌, subst}
+use Rattle.std.proofs.Common.{◌≡◌, ◌++◌, map, ap, ◌∙◌, subst}
 use Rattle.std.specs.Prelude.{IfOk}
 use Rattle.std.specs.List.{flat_map}
-use Rattle.adj_tree.specs.View.{declaration_of, code_of}
+use Rattle.adj_tree.specs.View.{declaration_of}
 use Rattle.adj_tree.specs.CommonView.{common_of, shared_of}
 use Rattle.def_names.specs.Statements.{statements}
 use Rattle.adj_symbols_writes.specs.Names.{names_among}
 use Rattle.adj_symbols_writes.specs.View.{vars_seen}
 use Rattle.adj_symbols_writes.proofs.Naming.{seen_among}
-use Rattle.adj_common.specs.Naming.{vars_in_act, vars_of_names, vars_declared, vars_in_extents, vars_of_items, text_vars}
+use Rattle.adj_common.specs.Naming.{vars_in_act, vars_of_names, vars_declared, vars_in_extents, vars_of_items}
 use Rattle.adj_common.proofs.Walked.{joined_five}
 use Rattle.adj_common.proofs.naming.names_in.Goals as goal
 

@@ -1,4 +1,4 @@
-use Rattle.std.proofs.Common.{◌++◌, map, sym, ap, ◌∙◌}
+use Rattle.std.proofs.Common.{◌++◌, map, ap, ◌∙◌}
 use Rattle.adj_tree.specs.CommonView.{common_of, shared_of}
 use Rattle.adj_symbols_writes.specs.View.{names_seen}
 use Rattle.adj_common.specs.Tables.{tabled}
