@@ -1,13 +1,14 @@
 //! Directives.
 
-ghost use Rattle.std.specs.Prelude.{◌≡◌, ◌≤◌, IfOk, length, option_map};
+ghost use Rattle.std.specs.Prelude.{◌≡◌, ◌≤◌, IfOk, Some, length, option_map};
 ghost use Rattle.std.specs.List.{prefix_len};
 ghost use Rattle.def_text.specs.Char.{is_blank};
-ghost use Rattle.def_text.specs.Line.{begins_in_either_case, is_directive, behind_blanks, behind_name, snapshots_of, is_name_part, is_named, name_of, mark_in, operand, operand_of};
+ghost use Rattle.def_text.specs.Line.{begins_in_either_case, is_directive, behind_blanks, behind_name, snapshots_of, is_name_part, is_named, name_of, mark_in, operand, operand_of, is_no_checkpoint, splits_call, advice_of};
 
 use crate::line::{are_blank, behind, front, number, push_folded};
 use crate::scan::{is_name_part, number_len};
 use adj_tree::{Mark, Memory, Name};
+use def_text::Advice;
 use std::alloc::Global;
 
 // Whether a line begins with a keyword of capitals, in either case.
@@ -48,7 +49,7 @@ fn behind_blanks(text: &[u8]) -> Option<&[u8]>
     }
 }
 
-// What stands behind the name of the directive.
+// What stands behind the name of a directive that gives snapshots.
 fn behind_name(text: &[u8]) -> Option<&[u8]>
     ensures { option_map (λ r. r.now) result ≡ behind_name text.now }
 {
@@ -119,7 +120,7 @@ fn mark_in(alloc: Global, text: &[u8]) -> Result<Option<Mark>, Memory>
     }
 }
 
-// What stands behind the name of a directive and the blanks behind it.
+// What stands behind that name and the blanks behind it.
 fn operand(line: &[u8]) -> Option<&[u8]>
     ensures { option_map (λ r. r.now) result ≡ operand line.now }
 {
@@ -127,12 +128,45 @@ fn operand(line: &[u8]) -> Option<&[u8]>
     behind_blanks(behind_name(name)?)
 }
 
-/// What a directive says, where it is well formed.
-pub(crate) fn operand_of(alloc: Global, line: &[u8]) -> Result<Option<Mark>, Memory>
+// The snapshots that a directive gives.
+fn operand_of(alloc: Global, line: &[u8]) -> Result<Option<Mark>, Memory>
     ensures { IfOk result (λ found. found ≡ operand_of line.now) }
 {
     match operand(line) {
         Some(text) => mark_in(alloc, text),
+        None => Ok(None),
+    }
+}
+
+// Whether the name of a directive that splits a call stands here, in either case, with blanks alone behind it.
+fn is_no_checkpoint(text: &[u8]) -> bool
+    ensures { result ≡ is_no_checkpoint (Some text.now) }
+{
+    begins_in_either_case(text, b"NOCHECKPOINT") && are_blank(behind(text, 12))
+}
+
+// Whether a directive splits a call.
+fn splits_call(line: &[u8]) -> bool
+    ensures { result ≡ splits_call line.now }
+{
+    match behind_blanks(behind(line, 4)) {
+        Some(text) => is_no_checkpoint(text),
+        None => false,
+    }
+}
+
+/// What a directive says, where it has one of its two forms.
+pub(crate) fn advice_of(alloc: Global, line: &[u8]) -> Result<Option<Advice>, Memory>
+    ensures { IfOk result (λ found. found ≡ advice_of line.now) }
+{
+    if splits_call(line) {
+        return Ok(Some(Advice {
+            mark: Mark::Plain,
+            split: true,
+        }));
+    }
+    match operand_of(alloc, line)? {
+        Some(mark) => Ok(Some(Advice { mark, split: false })),
         None => Ok(None),
     }
 }

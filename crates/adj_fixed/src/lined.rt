@@ -2,19 +2,19 @@
 
 ghost use Rattle.std.specs.Prelude.{◌≡◌, Ok, IsNone};
 ghost use Rattle.def_text.specs.Limits.{limits_of};
-ghost use Rattle.def_text.specs.Line.{label_of, operand_of};
+ghost use Rattle.def_text.specs.Line.{label_of, no_advice, advice_of};
 ghost use Rattle.def_text.specs.Lined.{flushed, with_directive, with_initial, has_room, one_less, with_continuation, with_line, ended};
 ghost use Rattle.def_text.specs.Lined as lined;
 ghost use Rattle.def_text.specs.Refused.{Gives};
 ghost use Rattle.adj_fixed.specs.View.{all_lines, pass_of};
 
-use crate::directive::{is_directive, operand_of};
+use crate::directive::{advice_of, is_directive};
 use crate::line::{
     are_allowed, body, column, is_comment, is_continuation, is_data, label_of, next_number,
     push_folded, split_line, without_cr,
 };
 use adj_tree::{Code, Fault, Mark};
-use def_text::Mode;
+use def_text::{Advice, Mode};
 use std::alloc::Global;
 
 /// A statement: its lines, joined.
@@ -22,7 +22,7 @@ use std::alloc::Global;
 pub(crate) struct Lined {
     pub line: u32,
     pub label: u32,
-    pub mark: Mark,
+    pub advice: Advice,
     pub mark_line: u32,
     pub text: Vec<u8>,
     /// How many continuation lines it may still have, where that is limited.
@@ -32,7 +32,7 @@ pub(crate) struct Lined {
 /// A directive that waits for its statement.
 #[derive(Drop)]
 struct Directive {
-    mark: Mark,
+    advice: Advice,
     line: u32,
 }
 
@@ -66,13 +66,16 @@ impl Reader {
     }
 
     fn directive(&mut self, alloc: Global, number: u32, line: &[u8]) -> Result<(), Fault>
-        ensures { Gives (λ _. pass_of self.new) result (with_directive (pass_of self.old) number (operand_of line.now)) }
+        ensures { Gives (λ _. pass_of self.new) result (with_directive (pass_of self.old) number (advice_of line.now)) }
     {
-        let Some(mark) = operand_of(alloc, line)? else {
+        let Some(advice) = advice_of(alloc, line)? else {
             return Err(Fault::refused(Code::Directive, number));
         };
         self.flush()?;
-        self.pending = Some(Directive { mark, line: number });
+        self.pending = Some(Directive {
+            advice,
+            line: number,
+        });
         Ok(())
     }
 
@@ -91,14 +94,14 @@ impl Reader {
         let mut text = Vec::new(alloc);
         push_folded(&mut text, body(line))?;
         self.flush()?;
-        let (mark, mark_line) = match self.pending.take() {
-            Some(directive) => (directive.mark, directive.line),
-            None => (Mark::Plain, 0),
+        let (advice, mark_line) = match self.pending.take() {
+            Some(directive) => (directive.advice, directive.line),
+            None => (no_advice(), 0),
         };
         self.current = Some(Lined {
             line: number,
             label,
-            mark,
+            advice,
             mark_line,
             text,
             room: continuation_lines(mode),
@@ -157,6 +160,16 @@ impl Reader {
         }
         reader.flush()?;
         Ok(reader.done)
+    }
+}
+
+// What is said of a statement without a directive.
+fn no_advice() -> Advice
+    ensures { result ≡ no_advice }
+{
+    Advice {
+        mark: Mark::Plain,
+        split: false,
     }
 }
 

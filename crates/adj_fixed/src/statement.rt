@@ -129,13 +129,14 @@ fn stated(alloc: Global, mode: Mode, lined: Lined) -> Result<Stated, Fault>
         return Err(Fault::refused(Code::Malformed, lined.line));
     };
     let limit = name_limit(mode);
-    if any_too_long(limit, tokens.as_slice()) || is_marked_long(limit, kind, &lined.mark) {
+    if any_too_long(limit, tokens.as_slice()) || is_marked_long(limit, kind, &lined.advice.mark) {
         return Err(Fault::refused(Code::LongName, lined.line));
     }
     Ok(Stated {
         line: lined.line,
         label: lined.label,
-        mark: lined.mark,
+        mark: lined.advice.mark,
+        split: lined.advice.split,
         mark_line: lined.mark_line,
         kind,
         text: Bytes::new(lined.text),

@@ -21,7 +21,7 @@ use Rattle.def_text.specs.declared.stated.Kind.TheVariants.{Do, Assign, Call}
 use Rattle.def_text.specs.declared.stated.Stated.{Stated}
 use Rattle.adj_parse.specs.Order.{breaks_loop, is_end, is_heading, opens_block}
 use Rattle.adj_parse_statement.specs.Said.{said}
-use Rattle.adj_parse.specs.Trees.{bounds_of, State, is_do, is_marked, has_stray_mark, is_large, is_deep, is_full, IsBeyond, with_form, is_astray, checked, behind, follow, trees_from}
+use Rattle.adj_parse.specs.Trees.{bounds_of, State, is_do, is_marked, is_call, has_stray_mark, is_large, is_deep, is_full, IsBeyond, with_form, is_astray, checked, behind, follow, trees_from}
 use Rattle.adj_parse.specs.Unit.{Current, followed, open_blocks, is_misplaced}
 use Rattle.def_text.proofs.LinesMarked.{bind_ok}
 use Rattle.adj_parse.proofs.Truths.{and_false}
@@ -138,8 +138,23 @@ pub is_do_is : (kind : Kind) → is_do kind ≡ true → kind ≡ Do
 is_do_is Do h = refl
 is_do_is kind h = absurd cc
 
+is_call_is : (kind : Kind) → is_call kind ≡ true → kind ≡ Call
+is_call_is Call h = refl
+is_call_is kind h = absurd cc
+
+-- neither kind of directive stands before a statement of another kind
+stray_parts : (t : Stated) → has_stray_mark t ≡ false → ((is_marked (mark_of t.mark) && not (is_do t.kind)) ≡ false) × ((t.split && not (is_call t.kind)) ≡ false)
+stray_parts t h = or_parts (is_marked (mark_of t.mark) && not (is_do t.kind)) (t.split && not (is_call t.kind)) h
+
 pub led_by : (t : Stated) → has_stray_mark t ≡ false → (mark_of t.mark ≡ unmarked) ⊎ (t.kind ≡ Do)
-led_by t h = elim (either (is_marked (mark_of t.mark)) (is_do t.kind) h) [ inl e ↦ inl (no_mark (mark_of t.mark) e) | inr e ↦ inr (is_do_is t.kind e) ]
+led_by t h = elim (either (is_marked (mark_of t.mark)) (is_do t.kind) (stray_parts t h).0) [ inl e ↦ inl (no_mark (mark_of t.mark) e) | inr e ↦ inr (is_do_is t.kind e) ]
+
+pub split_by : (t : Stated) → has_stray_mark t ≡ false → (t.split ≡ false) ⊎ (t.kind ≡ Call)
+split_by t h = elim (either t.split (is_call t.kind) (stray_parts t h).1) [ inl e ↦ inl e | inr e ↦ inr (is_call_is t.kind e) ]
+
+not_split : (t : Stated) → (t.split ≡ false) ⊎ (t.kind ≡ Call) → (t.split && not (is_call t.kind)) ≡ false
+not_split t (inl e) = rw e refl
+not_split t (inr e) = rw e (and_false t.split)
 
 led_form : {mark : Mark} {kind : Kind} {ws : List Lexeme} {f : Form} → ReadsForm mark kind ws f → (is_marked mark && not (is_do kind)) ≡ false
 led_form (forms.ReadsForm.heading d) = refl
@@ -159,6 +174,10 @@ led_form (forms.ReadsForm.tests_again d) = refl
 led_form forms.ReadsForm.closed = refl
 led_form forms.ReadsForm.returned = refl
 led_form forms.ReadsForm.ended = refl
+
+-- where a statement is derived, its directive has its place
+pub never_stray : (t : Stated) {f : Form} → (t.split ≡ false) ⊎ (t.kind ≡ Call) → ReadsForm (mark_of t.mark) t.kind (lexemes t) f → has_stray_mark t ≡ false
+never_stray t split d = rw (led_form d, not_split t split) refl
 
 -- END is END, and closes the unit
 same_end : {mark : Mark} {kind : Kind} {ws : List Lexeme} {f : Form} → ReadsForm mark kind ws f → is_end kind ≡ is_end (kind_of f)
@@ -209,7 +228,7 @@ module _ (mode : Mode) where
 
   pub reads_all : {ts : List Stated} {ss : List Statement} → AllSay ts ss → ReadsAll ts ss
   reads_all none = texts.ReadsAll.none
-  reads_all (more {t = t} {f = f} e led rest) = texts.ReadsAll.more (said_reads (bounds_of mode).depth (mark_of t.mark) t.kind (lexemes t) f e (led_by t led)) (reads_all rest)
+  reads_all (more {t = t} {f = f} e led rest) = texts.ReadsAll.more (split_by t led) (said_reads (bounds_of mode).depth (mark_of t.mark) t.kind (lexemes t) f e (led_by t led)) (reads_all rest)
 
   pub all_fit : {ts : List Stated} {ss : List Statement} → AllSay ts ss → AreFit ss
   all_fit none = tt
@@ -246,11 +265,11 @@ module _ (mode : Mode) where
   pub chain_comes : {ts : List Stated} {ss : List Statement} → ReadsAll ts ss → (s : State) (ps : List Shared) → run s.units ss ≡ Some ps → Comes ps (trees_from mode s ts)
   unfolding trees_from follow run
   chain_comes texts.ReadsAll.none s ps h = inl (ap Ok (units_done s.units.done s.units.current ps h))
-  chain_comes (texts.ReadsAll.more {s = t} {ss = ts} {f = f} {ts = ss} d rest) s ps h =
+  chain_comes (texts.ReadsAll.more {s = t} {ss = ts} {f = f} {ts = ss} split d rest) s ps h =
       let step = picked (stands (kind_of f) t.label s.units.current) (run (followed s.units.done s.units.current t.line t.label f) ss) h in
       let place = not_both (is_misplaced t.kind s.units.current) (breaks_loop t.kind t.label (open_blocks s.units.current)) (same_place d t.label s.units.current ∙ step.0) in
       let right : is_astray t (length ts) s.units.current ≡ false = rw (place.0) (last_ends rest step.1) in
-      elim (comes mode s t (length ts) (found t) f (led_form d) right place.1 (said_answers (bounds_of mode).depth (mark_of t.mark) t.kind (lexemes t) f d)) [
+      elim (comes mode s t (length ts) (found t) f (never_stray t split d) right place.1 (said_answers (bounds_of mode).depth (mark_of t.mark) t.kind (lexemes t) f d)) [
         | inl e ↦ subst (Comes ps) (sym (ap (λ r. (r >>= λ g. Ok (behind s t g)) >>= λ next. trees_from mode next ts) e)) (chain_comes rest (behind s t f) ps step.1)
         | inr (r, e, code) ↦ inr (r, ap (λ q. (q >>= λ g. Ok (behind s t g)) >>= λ next. trees_from mode next ts) e, code)
       ]
@@ -259,4 +278,4 @@ module _ (mode : Mode) where
       last_ends texts.ReadsAll.none g =
           let ended = closes_end s.units.done s.units.current t.line t.label f (picked (stands (kind_of f) t.label s.units.current) (run (followed s.units.done s.units.current t.line t.label f) ss) h).0 (units_none _ _ ps g) in
           rw (same_end d, ended) refl
-      last_ends (texts.ReadsAll.more {ss = us} e r) g = rw (eqb-suc-zero (length us)) refl
+      last_ends (texts.ReadsAll.more {ss = us} own e r) g = rw (eqb-suc-zero (length us)) refl

@@ -8,6 +8,7 @@ pub mod UnitsSound
 pub mod UnitsFit
 pub mod Stacks
 pub mod Declares
+pub mod SplitLines
 pub mod Seen
 pub mod Following
 pub mod Passing

@@ -45,7 +45,7 @@ fits mode stated ps h = let r = chain_runs mode stated (start mode) ps (closed m
 
 pub one_all : {stated : List Stated} {ss ts : List Statement} → ReadsAll stated ss → ReadsAll stated ts → ss ≡ ts
 one_all texts.ReadsAll.none texts.ReadsAll.none = refl
-one_all (texts.ReadsAll.more {s = s} {f = f} d r) (texts.ReadsAll.more {f = g} e q) =
+one_all (texts.ReadsAll.more {s = s} {f = f} _ d r) (texts.ReadsAll.more {f = g} _ e q) =
     let forms : f ≡ g = one_form (mark_of s.mark) s.kind (lexemes_of s.text s.tokens) f g d e in
     let rest = one_all r q in
     cc

@@ -14,7 +14,7 @@ use Rattle.def_text.specs.Lexeme.{lexemes_of}
 use Rattle.def_text.specs.declared.mode.Mode.{Mode}
 use Rattle.def_text.specs.declared.mode.Mode.TheVariants.{Source, Run}
 use Rattle.def_text.specs.declared.stated.Kind.{Kind}
-use Rattle.def_text.specs.declared.stated.Kind.TheVariants.{Do}
+use Rattle.def_text.specs.declared.stated.Kind.TheVariants.{Do, Call}
 use Rattle.def_text.specs.declared.stated.Stated.{Stated}
 use Rattle.adj_parse.specs.declared.bounds.Bounds.{Bounds}
 use Rattle.adj_parse.specs.Order.{breaks_loop, is_end, is_heading, opens_block}
@@ -47,9 +47,13 @@ abbrev pub is_marked : Mark → Bool
 is_marked unmarked = false
 is_marked mark = true
 
--- a directive before another statement than a DO; a DO WHILE is none
+abbrev pub is_call : Kind → Bool
+is_call Call = true
+is_call kind = false
+
+-- a directive before another statement than one of its kind: a DO where it gives snapshots, and a DO WHILE is none; a CALL where it splits one, and a logical IF is none
 abbrev pub has_stray_mark : Stated → Bool
-has_stray_mark t = is_marked (mark_of t.mark) && not (is_do t.kind)
+has_stray_mark t = (is_marked (mark_of t.mark) && not (is_do t.kind)) || (t.split && not (is_call t.kind))
 
 -- whether a statement has a literal above the greatest word, or too deep an expression
 abbrev pub is_large : {A : Type 0} → Option (Result A Flaw) → Bool

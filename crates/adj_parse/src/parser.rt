@@ -11,7 +11,7 @@ ghost use Rattle.adj_parse_expression.specs.View.{seen};
 ghost use Rattle.adj_parse.specs.Order.{breaks_loop, is_heading, opens_block};
 ghost use Rattle.adj_parse.specs.Unit.{followed, open_blocks, is_misplaced};
 ghost use Rattle.adj_parse.specs.Trees as trees;
-ghost use Rattle.adj_parse.specs.Trees.{is_marked, is_large, is_deep, is_astray, is_full, with_form, checked, behind, start};
+ghost use Rattle.adj_parse.specs.Trees.{is_marked, has_stray_mark, is_large, is_deep, is_astray, is_full, with_form, checked, behind, start};
 ghost use Rattle.adj_parse.specs.CurrentView.{current_of, units_of, state_of};
 ghost use Rattle.adj_parse_statement.specs.View.{form_of};
 
@@ -44,6 +44,14 @@ fn is_marked(mark: &Mark) -> bool
     ensures { result ≡ is_marked (mark_of mark.now) }
 {
     !matches!(mark, Mark::Plain)
+}
+
+// Whether the directive before a statement isn't for one of its kind.
+fn has_stray_mark(stated: &Stated) -> bool
+    ensures { result ≡ has_stray_mark stated.now }
+{
+    (is_marked(&stated.mark) && stated.kind != Kind::Do)
+        || (stated.split && stated.kind != Kind::Call)
 }
 
 fn is_large(found: &Option<Result<Said, Flaw>>) -> bool
@@ -222,7 +230,7 @@ impl Parser {
     ) -> Result<Said, Fault>
         ensures { Gives (λ said. said) result (checked bounds (state_of self.now) stated.now left found) }
     {
-        if is_marked(&stated.mark) && stated.kind != Kind::Do {
+        if has_stray_mark(stated) {
             return Err(Fault::refused(Code::Directive, stated.mark_line));
         }
         if found.is_none() || self.is_astray(stated, left) {

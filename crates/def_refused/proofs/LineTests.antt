@@ -4,12 +4,12 @@ use Rattle.std.specs.Prelude.{◌==◌, ◌&&◌, ◌||◌, not, is_none, unwrap
 use Rattle.std.specs.List.{list_all}
 use Rattle.std.proofs.lemmas.Bool.{leb-true, leb-false, le-leb, ltb-true, lt-ltb, le-ltb}
 use Rattle.adj_tree.specs.declared.fault.Refusal.{Refusal}
-use Rattle.adj_tree.specs.declared.stmt.Mark.{Mark}
 use Rattle.def_text.specs.Char.{blank, nought, is_between, is_allowed}
 use Rattle.def_text.specs.Limits.{Limits}
-use Rattle.def_text.specs.Line.{cut_lines, without_cr, next_number, is_data, column, is_directive, is_comment, is_continuation, body, label_of, operand_of}
+use Rattle.def_text.specs.Line.{cut_lines, without_cr, next_number, is_data, column, is_directive, is_comment, is_continuation, body, label_of, advice_of}
 use Rattle.def_text.specs.Lined.{Lines, Directive, Pass, start, flushed, with_directive, with_initial, has_room, with_continuation, behind_directive, with_line, ended, pass_over, lines_of}
 use Rattle.def_text.specs.Refused.{◌>>=◌, refused, limited}
+use Rattle.def_text.specs.declared.stated.Advice.{Advice}
 use Rattle.def_refused.specs.First.{code_at, limit_at, rank, IsLeast, HasNone, IsAnswer}
 use Rattle.def_text.specs.Forming.{Line, numbered, lines_in, Sort, directive, comment, continuation, initial, sort}
 use Rattle.def_refused.specs.LineFaults.{lead_in, continuations, LineFault, unlabelled, shifted, alone, unmarked, foreign, garbled, astray, too_long}
@@ -54,7 +54,7 @@ module _ (limits : Limits) where
 
     -- the tests of a line of each sort, in order
     abbrev tests : Sort → List (Option Refusal)
-    tests directive = when (is_none (operand_of l.characters) || not (lead_in after)) (code_at 20 l.number) ∷ []
+    tests directive = when (is_none (advice_of l.characters) || not (lead_in after)) (code_at 20 l.number) ∷ []
     tests comment = []
     tests continuation = when (is_none (continuations before)) (code_at 1 l.number) ∷ when (not (marked && allowed)) (code_at 2 l.number) ∷ limit_test limits.continuations (continuations before) ∷ []
     tests initial = when (is_none (label_of l.characters) || not clear) (code_at 1 l.number) ∷ when (not allowed) (code_at 2 l.number) ∷ []
@@ -65,7 +65,7 @@ module _ (limits : Limits) where
     limit_ranked None so_far r h = absurd cc
 
     ranked : (s : Sort) → AreRanked 0 (tests s)
-    ranked directive = (0, omega arith, when_ranked (is_none (operand_of l.characters) || not (lead_in after)) (code_at 20 l.number), tt)
+    ranked directive = (0, omega arith, when_ranked (is_none (advice_of l.characters) || not (lead_in after)) (code_at 20 l.number), tt)
     ranked comment = tt
     ranked continuation = (1, omega arith, when_ranked (is_none (continuations before)) (code_at 1 l.number), (2, omega arith, when_ranked (not (marked && allowed)) (code_at 2 l.number), (21, omega arith, limit_ranked limits.continuations (continuations before), tt)))
     ranked initial = (1, omega arith, when_ranked (is_none (label_of l.characters) || not clear) (code_at 1 l.number), (2, omega arith, when_ranked (not allowed) (code_at 2 l.number), tt))
@@ -88,7 +88,7 @@ module _ (limits : Limits) where
     present comment e r (foreign f h) = let never : false ≡ true = rw e at f in absurd cc
     present directive e r (garbled f h) = inl (true_when _ (code_at 20 l.number) (or_left _ _ (ap is_none h)))
     present s e r (garbled f h) = absurd cc
-    present directive e r (astray f h) = inl (true_when _ (code_at 20 l.number) (or_right (is_none (operand_of l.characters)) _ (ap not h)))
+    present directive e r (astray f h) = inl (true_when _ (code_at 20 l.number) (or_right (is_none (advice_of l.characters)) _ (ap not h)))
     present s e r (astray f h) = absurd cc
     present continuation e r (too_long most so_far f g h k) = inr (inr (inl (rw (g, h) (limit_there most so_far k))))
     present s e r (too_long most so_far f g h k) = absurd cc
@@ -99,8 +99,8 @@ module _ (limits : Limits) where
     limit_stands e None so_far f g r h = absurd cc
 
     stand : (s : Sort) → sort l.characters ≡ s → (r : Refusal) → Present (tests s) r → Fault before l after r
-    stand directive e r (inl h) = only_where (Fault before l after) (is_none (operand_of l.characters) || not (lead_in after)) (code_at 20 l.number) (λ t. elim (or_either (is_none (operand_of l.characters)) (not (lead_in after)) t) [
-      | inl x ↦ garbled e (none_is (operand_of l.characters) x)
+    stand directive e r (inl h) = only_where (Fault before l after) (is_none (advice_of l.characters) || not (lead_in after)) (code_at 20 l.number) (λ t. elim (or_either (is_none (advice_of l.characters)) (not (lead_in after)) t) [
+      | inl x ↦ garbled e (none_is (advice_of l.characters) x)
       | inr x ↦ astray e (not_is (lead_in after) x)
     ]) r h
     stand directive e r (inr h) = absurd h
@@ -215,27 +215,27 @@ module _ (limits : Limits) where
     none_in_comment : sort l.characters ≡ comment → HasNone (LineFault limits before l after)
     none_in_comment e = λ r f. present before l after comment e r f
 
-    -- a directive: its operand is told, and an initial line comes next
-    directive_tests : (operand : Option Mark) → operand ≡ operand_of l.characters → lead_in after ≡ true → (p : Pass) → forgotten (with_directive p l.number operand) ≡ chosen (tests before l after directive)
+    -- a directive: what it says is told, and an initial line comes next
+    directive_tests : (advice : Option Advice) → advice ≡ advice_of l.characters → lead_in after ≡ true → (p : Pass) → forgotten (with_directive p l.number advice) ≡ chosen (tests before l after directive)
     directive_tests None h e p = rw (sym h) refl
-    directive_tests (Some mark) h e p = rw (sym h, e) refl
+    directive_tests (Some advice) h e p = rw (sym h, e) refl
 
     astray_first : {B : Type 0} (answer : Result B Refusal) → sort l.characters ≡ directive → lead_in after ≡ false → answer ≡ refused 20 l.number → IsAnswer (LineFault limits) before (l ∷ after) answer
     astray_first {B} answer e f h =
-        let least : IsLeast (LineFault limits before l after) (code_at 20 l.number) = tested {B = B} (tests before l after directive) (refused 20 l.number) (are_tested before l after directive e) (rw f (led (is_none (operand_of l.characters)))) in
+        let least : IsLeast (LineFault limits before l after) (code_at 20 l.number) = tested {B = B} (tests before l after directive) (refused 20 l.number) (are_tested before l after directive e) (rw f (led (is_none (advice_of l.characters)))) in
         subst (IsAnswer (LineFault limits) before (l ∷ after)) (sym h) (inl least)
       where
         led : (b : Bool) → Err (code_at 20 l.number) ≡ chosen (when (b || true) (code_at 20 l.number) ∷ [])
         led true = refl
         led false = refl
 
-    directive_next : (p : Pass) (operand : Option Mark) (q : Pass) → with_directive p l.number operand ≡ Ok q → (d : Directive) × (q.pending ≡ Some d) × (d.line ≡ l.number)
+    directive_next : (p : Pass) (advice : Option Advice) (q : Pass) → with_directive p l.number advice ≡ Ok q → (d : Directive) × (q.pending ≡ Some d) × (d.line ≡ l.number)
     directive_next p None q h = absurd cc
-    directive_next p (Some mark) q h = (record { mark = mark; line = l.number }, ap (λ (r : Pass). r.pending) (sym (ok_same _ q h)), refl)
+    directive_next p (Some advice) q h = (record { advice = advice; line = l.number }, ap (λ (r : Pass). r.pending) (sym (ok_same _ q h)), refl)
 
   -- what the next line is to the pass, by its sort
   abbrev by_sort : Pass → ℕ → List ℕ → Sort → Result Pass Refusal
-  by_sort p n l directive = behind_directive p.pending (with_directive p n (operand_of l))
+  by_sort p n l directive = behind_directive p.pending (with_directive p n (advice_of l))
   by_sort p n l comment = Ok p
   by_sort p n l continuation = behind_directive p.pending (with_continuation limits p n l p.current)
   by_sort p n l initial = with_initial limits p n l (label_of l)
@@ -300,15 +300,15 @@ module _ (limits : Limits) where
 
     -- a directive before lines
     directive_line : (p : Pass) → p.pending ≡ None → sort (without_cr l) ≡ directive → Answered p
-    directive_line p h e = by_step p directive e (rw h (from (operand_of (without_cr l)) refl (lead_in after) refl))
+    directive_line p h e = by_step p directive e (rw h (from (advice_of (without_cr l)) refl (lead_in after) refl))
       where
-        from : (operand : Option Mark) → operand ≡ operand_of (without_cr l) → (b : Bool) → lead_in after ≡ b → IsAnswer (LineFault limits) before (here ∷ after) (with_directive p n operand >>= λ q. over q (next_number n) ls)
-        from operand f true g = answer_more (LineFault limits) before after here (with_directive p n operand) (λ q. over q (next_number n) ls) (tested (tests before here after directive) _ (are_tested before here after directive e) (directive_tests before here after operand f g p))
-            (λ q k. let d = directive_next before here after p operand q k in (led q d.0 d.1).0 g)
+        from : (advice : Option Advice) → advice ≡ advice_of (without_cr l) → (b : Bool) → lead_in after ≡ b → IsAnswer (LineFault limits) before (here ∷ after) (with_directive p n advice >>= λ q. over q (next_number n) ls)
+        from advice f true g = answer_more (LineFault limits) before after here (with_directive p n advice) (λ q. over q (next_number n) ls) (tested (tests before here after directive) _ (are_tested before here after directive e) (directive_tests before here after advice f g p))
+            (λ q k. let d = directive_next before here after p advice q k in (led q d.0 d.1).0 g)
         from None f false g = astray_first before here after {B = List Lines} (refused 20 n) e g refl
-        from (Some mark) f false g =
-            let q : Pass = record { done = flushed p; current = None; pending = Some (record { mark = mark; line = n }) } in
-            astray_first before here after (over q (next_number n) ls) e g ((led q (record { mark = mark; line = n }) refl).1 g)
+        from (Some advice) f false g =
+            let q : Pass = record { done = flushed p; current = None; pending = Some (record { advice = advice; line = n }) } in
+            astray_first before here after (over q (next_number n) ls) e g ((led q (record { advice = advice; line = n }) refl).1 g)
 
     comment_line : (p : Pass) → sort (without_cr l) ≡ comment → IsAnswer (LineFault limits) (here ∷ before) after (over p (next_number n) ls) → Answered p
     comment_line p e h = by_step p comment e (answer_behind (LineFault limits) before after here (over p (next_number n) ls) (none_in_comment before here after e) h)

@@ -28,7 +28,7 @@ module _ (limits : Limits) (s : Lines) where
 
   abbrev long : Option Kind → Bool
   long None = false
-  long (Some kind) = long_token (tokens_of kind s.text) || is_marked_long limits.name kind s.mark
+  long (Some kind) = long_token (tokens_of kind s.text) || is_marked_long limits.name kind s.advice.mark
 
   abbrev no_class : Bool
   no_class = not (eqb (length s.text) 0) && is_none (class_of s.text)
@@ -50,9 +50,9 @@ module _ (limits : Limits) (s : Lines) where
       ∷ when (long class) (code_at 6 s.line)
       ∷ []
 
-  by_tokens : (kind : Kind) (tokens : Option (List Token)) → forgotten (with_tokens limits s kind tokens) ≡ chosen (when (is_none tokens) (code_at 4 s.line) ∷ when (long_token tokens || is_marked_long limits.name kind s.mark) (code_at 6 s.line) ∷ [])
+  by_tokens : (kind : Kind) (tokens : Option (List Token)) → forgotten (with_tokens limits s kind tokens) ≡ chosen (when (is_none tokens) (code_at 4 s.line) ∷ when (long_token tokens || is_marked_long limits.name kind s.advice.mark) (code_at 6 s.line) ∷ [])
   by_tokens kind None = refl
-  by_tokens kind (Some tokens) = test_more (list_any (is_too_long limits.name) tokens || is_marked_long limits.name kind s.mark) (code_at 6 s.line) [] _ (λ h. refl)
+  by_tokens kind (Some tokens) = test_more (list_any (is_too_long limits.name) tokens || is_marked_long limits.name kind s.advice.mark) (code_at 6 s.line) [] _ (λ h. refl)
 
   tests_are : (e m : Bool) (class : Option Kind) → m ≡ is_matched 0 s.text → forgotten (cond e (refused 4 s.line) (with_class limits s class)) ≡ chosen (by_class e m class)
   tests_are true m None h = refl
@@ -90,7 +90,7 @@ module _ (limits : Limits) (s : Lines) where
 
     long_stands : (class : Option Kind) → class_of s.text ≡ class → long class ≡ true → Fault (code_at 6 s.line)
     long_stands None e h = absurd cc
-    long_stands (Some kind) e h = elim (or_either (long_token (tokens_of kind s.text)) (is_marked_long limits.name kind s.mark) h) [
+    long_stands (Some kind) e h = elim (or_either (long_token (tokens_of kind s.text)) (is_marked_long limits.name kind s.advice.mark) h) [
       | inl f ↦ long_tokens_stand kind (tokens_of kind s.text) e refl f
       | inr f ↦ long_mark kind e f
     ]

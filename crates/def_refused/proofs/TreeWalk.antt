@@ -1,5 +1,5 @@
 -- TreeWalk: the chain of faults over all statements of a text answers by the first fault.
-use Rattle.std.proofs.Common.{◌≡◌, ℕ, suc, true, false, cond, List, [], ◌∷◌, ◌++◌, length, Option, Some, None, Result, Ok, Err, refl, sym, ap, subst, ◌∙◌, arith}
+use Rattle.std.proofs.Common.{◌≡◌, ℕ, suc, true, false, cond, List, [], ◌∷◌, ◌++◌, length, Option, Some, None, Result, Ok, Err, ◌⊎◌, refl, sym, ap, subst, ◌∙◌, arith}
 use Rattle.std.specs.Prelude.{◌==◌, ◌&&◌, ◌||◌, is_none, nat_le}
 use Rattle.std.proofs.lemmas.Bool.{or_parts}
 use Rattle.std.proofs.lemmas.List.{reverse-append, length-append}
@@ -15,6 +15,7 @@ use Rattle.def_text.specs.Refused.{◌>>=◌}
 use Rattle.def_text.specs.Lexeme.{Lexeme}
 use Rattle.def_text.specs.declared.mode.Mode.{Mode}
 use Rattle.def_text.specs.declared.stated.Kind.{Kind}
+use Rattle.def_text.specs.declared.stated.Kind.TheVariants.{Call}
 use Rattle.def_text.specs.declared.stated.Stated.{Stated}
 use Rattle.adj_parse_statement.specs.Phrases.{phrase_of}
 use Rattle.adj_parse_statement.specs.Said.{said}
@@ -23,7 +24,7 @@ use Rattle.adj_parse.specs.Order.{breaks_loop, is_end, is_heading, opens_block}
 use Rattle.adj_parse.specs.Trees.{bounds_of, State, start, has_stray_mark, is_astray, is_large, is_deep, is_full, checked, behind, follow, trees_from, trees_of}
 use Rattle.adj_parse.specs.Unit.{Current, finished, followed, open_blocks, is_misplaced}
 use Rattle.adj_parse.proofs.Machine.{kind_of}
-use Rattle.adj_parse.proofs.Followed.{let_through, with_form-ok, led_by}
+use Rattle.adj_parse.proofs.Followed.{let_through, with_form-ok, led_by, split_by}
 use Rattle.def_refused.specs.First.{HasNone, IsAnswer}
 use Rattle.def_refused.specs.Following as following
 use Rattle.def_refused.specs.Following.{IsOf}
@@ -101,9 +102,9 @@ through mode s t left f h =
     }
 
 -- one statement more says something
-reads_more : {ts : List Stated} {ss : List Statement} (t : Stated) (f : Form) → ReadsAll ts ss → ReadsForm (mark_of t.mark) t.kind (lexemes t) f → ReadsAll (ts ++ t ∷ []) (ss ++ at t.line t.label f ∷ [])
-reads_more t f texts.ReadsAll.none d = texts.ReadsAll.more d texts.ReadsAll.none
-reads_more t f (texts.ReadsAll.more e r) d = texts.ReadsAll.more e (reads_more t f r d)
+reads_more : {ts : List Stated} {ss : List Statement} (t : Stated) (f : Form) → ReadsAll ts ss → (t.split ≡ false) ⊎ (t.kind ≡ Call) → ReadsForm (mark_of t.mark) t.kind (lexemes t) f → ReadsAll (ts ++ t ∷ []) (ss ++ at t.line t.label f ∷ [])
+reads_more t f texts.ReadsAll.none split d = texts.ReadsAll.more split d texts.ReadsAll.none
+reads_more t f (texts.ReadsAll.more own e r) split d = texts.ReadsAll.more own e (reads_more t f r split d)
 
 -- behind a statement that stands, RETURN has no block round it
 pub next_bare : (l : ℕ) (f : Form) (w : Option Inner) → stands_at (kind_of f) l w ≡ true → IsBare w → IsBare (next_at l f w)
@@ -140,7 +141,7 @@ module _ (laws : Laws) (mode : Mode) where
       let stands : stands_at (kind_of f) t.label w ≡ true = sym (same_class class t.label w) ∙ stands_same t.kind t.label s.units.current ∙ rw (thr.place, thr.breaks) refl in
       record {
         statements = here.statements ++ at t.line t.label f ∷ [];
-        say = subst (λ ts. ReadsAll ts (here.statements ++ at t.line t.label f ∷ [])) (sym (reverse-append (t ∷ []) before)) (reads_more t f here.say reads);
+        say = subst (λ ts. ReadsAll ts (here.statements ++ at t.line t.label f ∷ [])) (sym (reverse-append (t ∷ []) before)) (reads_more t f here.say (split_by t thr.led) reads);
         leads = subst (Leads None (here.statements ++ at t.line t.label f ∷ [])) (sym (next_same s.units.done s.units.current t.line t.label f)) (leads_more None w here.statements t.line t.label f here.leads stands);
         bare = subst IsBare (sym (next_same s.units.done s.units.current t.line t.label f)) (next_bare t.label f w stands here.bare);
         room = omega (arith, here.room);

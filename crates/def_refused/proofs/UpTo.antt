@@ -41,10 +41,10 @@ record Last (ts : List Stated) (t : Stated) (ss : List Statement) : Type 0 where
   form : ReadsForm (mark_of t.mark) t.kind (lexemes t) says
 
 reads_last : (ts : List Stated) (t : Stated) {ss : List Statement} → ReadsAll (ts ++ t ∷ []) ss → Last ts t ss
-reads_last [] t (texts.ReadsAll.more {f = f} d texts.ReadsAll.none) = record { front = []; says = f; parts = refl; front_says = texts.ReadsAll.none; form = d }
-reads_last (u ∷ us) t (texts.ReadsAll.more {f = f} d r) =
+reads_last [] t (texts.ReadsAll.more {f = f} split d texts.ReadsAll.none) = record { front = []; says = f; parts = refl; front_says = texts.ReadsAll.none; form = d }
+reads_last (u ∷ us) t (texts.ReadsAll.more {f = f} split d r) =
     let l = reads_last us t r in
-    record { front = at u.line u.label f ∷ l.front; says = l.says; parts = ap (λ ss. at u.line u.label f ∷ ss) l.parts; front_says = texts.ReadsAll.more d l.front_says; form = l.form }
+    record { front = at u.line u.label f ∷ l.front; says = l.says; parts = ap (λ ss. at u.line u.label f ∷ ss) l.parts; front_says = texts.ReadsAll.more split d l.front_says; form = l.form }
 
 -- that a form that lexemes have comes from a phrase
 abbrev pub HavePhrases : Type 0

@@ -4,7 +4,7 @@ use Rattle.std.specs.List.{list_all}
 use Rattle.adj_tree.specs.declared.fault.Refusal.{Refusal}
 use Rattle.def_text.specs.Char.{blank, nought, is_between, is_allowed}
 use Rattle.def_text.specs.Limits.{Limits}
-use Rattle.def_text.specs.Line.{column, body, label_of, operand_of}
+use Rattle.def_text.specs.Line.{column, body, label_of, advice_of}
 use Rattle.def_text.specs.Forming.{Line, Sort, directive, comment, continuation, initial, sort}
 use Rattle.def_refused.specs.First.{code_at, limit_at}
 
@@ -46,8 +46,8 @@ pub data LineFault (limits : Limits) (before : List Line) (l : Line) (after : Li
   unmarked : sort l.characters ≡ continuation → is_between 33 126 (column l.characters 6) ≡ false → LineFault limits before l after (code_at 2 l.number)
   -- columns 7 to 72 of an initial line or a continuation hold a byte that no statement has
   foreign : is_part (sort l.characters) ≡ true → list_all is_allowed (body l.characters) ≡ false → LineFault limits before l after (code_at 2 l.number)
-  -- a directive isn't of its form
-  garbled : sort l.characters ≡ directive → operand_of l.characters ≡ None → LineFault limits before l after (code_at 20 l.number)
+  -- a directive has neither of the two forms
+  garbled : sort l.characters ≡ directive → advice_of l.characters ≡ None → LineFault limits before l after (code_at 20 l.number)
   -- the next line that is no comment isn't there or is no initial line
   astray : sort l.characters ≡ directive → lead_in after ≡ false → LineFault limits before l after (code_at 20 l.number)
   -- its statement has all the continuation lines already that it may have

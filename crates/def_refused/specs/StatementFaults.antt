@@ -22,4 +22,4 @@ pub data StatementFault (limits : Limits) (before : List Lines) (s : Lines) (aft
   untold : (kind : Kind) → class_of s.text ≡ Some kind → tokens_of kind s.text ≡ None → StatementFault limits before s after (code_at 4 s.line)
   -- a name has too many characters, or that in the directive before a DO
   long_name : (kind : Kind) (tokens : List Token) → class_of s.text ≡ Some kind → tokens_of kind s.text ≡ Some tokens → list_any (is_too_long limits.name) tokens ≡ true → StatementFault limits before s after (code_at 6 s.line)
-  long_mark : (kind : Kind) → class_of s.text ≡ Some kind → is_marked_long limits.name kind s.mark ≡ true → StatementFault limits before s after (code_at 6 s.line)
+  long_mark : (kind : Kind) → class_of s.text ≡ Some kind → is_marked_long limits.name kind s.advice.mark ≡ true → StatementFault limits before s after (code_at 6 s.line)

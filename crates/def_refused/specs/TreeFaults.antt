@@ -37,7 +37,7 @@ passed mode units statements blocks kind p =
 
 -- a statement in a mode, with those before it, the nearest first, and those behind it; what the ones before say reads
 pub data TreeFault (mode : Mode) (before : List Stated) (t : Stated) (after : List Stated) : Refusal → Type 0 where
-  -- a directive stands before another statement than a DO
+  -- a directive that gives snapshots stands before another statement than a DO, or one that splits a call before another than a CALL
   stray : has_stray_mark t ≡ true → TreeFault mode before t after (code_at 20 t.mark_line)
   -- what stands behind the keyword hasn't the form of the class
   formless : ((p : Phrase) → Says t.kind (lexemes t) p → ⊥) → TreeFault mode before t after (code_at 4 t.line)

@@ -10,7 +10,6 @@ use Rattle.def_text.specs.Char.{folded}
 use Rattle.def_text.specs.Form.{opens_if, ReadsForm}
 use Rattle.def_text.specs.Form as forms
 use Rattle.def_text.specs.Lined.{Lines}
-use Rattle.def_text.specs.Statement.{Range, ReadsRange, ReadsDo}
 use Rattle.def_text.specs.Statement as statements
 use Rattle.def_text.specs.Text.{test_text}
 use Rattle.def_text.specs.Lexeme.{Lexeme, Mark}
@@ -33,16 +32,17 @@ if_folded : (c : Test) → IsWrittenTest c → folded (codes "IF (" ++ test_text
 if_folded c h =
     ap (λ cs. codes "IF(" ++ cs) (folded-append (test_text c) (codes ") THEN") ∙ ap (λ cs. cs ++ codes ")THEN") (solid_test c h).0 ∙ sym (append_assoc (test_text c) (codes ")") (codes "THEN")))
 
-if_reads : (s : Lines) (c : Test) → s.text ≡ if_chars c → mark_of s.mark ≡ unmarked → IsWrittenTest c → Says s (opens_if c)
+if_reads : (s : Lines) (c : Test) → s.text ≡ if_chars c → mark_of s.advice.mark ≡ unmarked → IsWrittenTest c → Says s (opens_if c)
 if_reads s c e m h =
     let form : ReadsForm unmarked classes.BlockIf (guard_lexemes c) (opens_if c) = forms.ReadsForm.tests (statements.ReadsGuard.guard (reads_test c (Mark Right ∷ []) h)) in
-    let P : List Lexeme → Type 0 = λ ws. ReadsForm (mark_of s.mark) classes.BlockIf ws (opens_if c) in
+    let P : List Lexeme → Type 0 = λ ws. ReadsForm (mark_of s.advice.mark) classes.BlockIf ws (opens_if c) in
     let Q : trees.Mark → Type 0 = λ mark. ReadsForm mark classes.BlockIf (guard_lexemes c) (opens_if c) in
     record {
       found = if_statement s c;
       is_stated = states_if s c e h;
       at_line = refl;
       with_label = refl;
+      with_split = refl;
       form = subst P (sym (if_lexemes s c e h)) (subst Q (sym m) form);
     }
 

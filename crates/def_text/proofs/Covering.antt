@@ -148,7 +148,7 @@ if_ok P false x y first second = second refl
 
 with_tokens_covered : (limits : Limits) (s : Lines) (kind : Kind) (found : Option (List Token)) → IfSome found (Covers s.text kind) → IfOk (with_tokens limits s kind found) IsCovered
 with_tokens_covered limits s kind None covers = tt
-with_tokens_covered limits s kind (Some tokens) covers = if_ok IsCovered (list_any (is_too_long limits.name) tokens || is_marked_long limits.name kind s.mark) _ _ (λ _. tt) (λ _. covers)
+with_tokens_covered limits s kind (Some tokens) covers = if_ok IsCovered (list_any (is_too_long limits.name) tokens || is_marked_long limits.name kind s.advice.mark) _ _ (λ _. tt) (λ _. covers)
 
 with_class_covered : (limits : Limits) (s : Lines) (class : Option Kind) → IfSome class (λ kind. keyword_len kind s.text + ending_len kind ≤ length s.text) → IfOk (with_class limits s class) IsCovered
 with_class_covered limits s None fits = tt

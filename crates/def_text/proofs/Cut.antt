@@ -20,7 +20,6 @@ use Rattle.def_text.specs.declared.token.Token.{Token}
 use Rattle.def_text.specs.declared.token.TokenKind.{TokenKind}
 use Rattle.def_text.specs.declared.token.TokenKind.TheVariants as kinds
 use Rattle.def_text.proofs.Covering.{IsWithin, first_within}
-use Rattle.def_text.proofs.Fitting.{if_some}
 use Rattle.def_text.proofs.Forming.{lines_formed, formed_lines}
 use Rattle.def_text.proofs.LinesMarked.{bind_ok}
 use Rattle.def_text.proofs.Parts.{then_some}
@@ -112,7 +111,7 @@ matched_first false e x y h = absurd cc
 
 -- a statement with its class and its tokens
 abbrev made : Lines → Kind → List Token → Stated
-made s kind tokens = record { line = s.line; label = s.label; mark = s.mark; mark_line = s.mark_line; kind = kind; text = s.text; tokens = tokens }
+made s kind tokens = record { line = s.line; label = s.label; mark = s.advice.mark; split = s.advice.split; mark_line = s.mark_line; kind = kind; text = s.text; tokens = tokens }
 
 is_stated : (s : Lines) (x : Stated) → stated no_limits s ≡ Ok x → IsStated s x
 unfolding stated
@@ -121,7 +120,7 @@ is_stated s x h = by_class (class_of s.text) refl (chosen (eqb (length s.text) 0
     by_tokens : (kind : Kind) → class_of s.text ≡ Some kind → is_matched 0 s.text ≡ true → (tokens : Option (List Token)) → tokens_of kind s.text ≡ tokens → with_tokens no_limits s kind tokens ≡ Ok x → IsStated s x
     by_tokens kind e m None f h = absurd cc
     by_tokens kind e m (Some tokens) f h =
-        let r = chosen (list_any (is_too_long None) tokens || is_marked_long None kind s.mark) _ (Ok (made s kind tokens)) x h in
+        let r = chosen (list_any (is_too_long None) tokens || is_marked_long None kind s.advice.mark) _ (Ok (made s kind tokens)) x h in
         let same : made s kind tokens ≡ x = let g = r.1 in cc in
         let text = part s.text (keyword_len kind s.text) (length s.text - ending_len kind) in
         let place : keyword_len kind s.text + 0 ≡ keyword_len kind s.text = omega arith in

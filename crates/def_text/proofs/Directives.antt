@@ -1,5 +1,5 @@
 -- Directives: the line of a directive that is printed gives its mark.
-use Rattle.std.proofs.Common.{◌≡◌, ℕ, zero, suc, ◌+◌, ◌-◌, ◌/◌, ◌%◌, ◌<◌, ◌≤◌, Bool, true, false, cond, eqb, ltb, List, [], ◌∷◌, ◌++◌, length, drop, Option, None, Some, Ok, refl, sym, ap, subst, ◌∙◌, arith, inl, inr, append_assoc}
+use Rattle.std.proofs.Common.{◌≡◌, ℕ, zero, suc, ◌+◌, ◌-◌, ◌/◌, ◌%◌, ◌<◌, ◌≤◌, Bool, true, false, cond, eqb, ltb, List, [], ◌∷◌, ◌++◌, length, drop, Option, None, Some, Ok, option_map, refl, sym, ap, subst, ◌∙◌, arith, inl, inr, append_assoc}
 use Rattle.std.specs.Prelude.{codes, not, ◌&&◌, get_or, take}
 use Rattle.std.specs.Fmt.{decimal}
 use Rattle.std.specs.List.{list_all, prefix_len}
@@ -14,7 +14,7 @@ use Rattle.adj_tree.specs.declared.stmt.Mark.{Mark}
 use Rattle.adj_tree.specs.declared.stmt.Mark.TheVariants.{Plain, Count, From}
 use Rattle.def_text.specs.Char.{is_capital, is_name_char, are_blank, folded, upper}
 use Rattle.def_text.specs.Limits.{no_limits}
-use Rattle.def_text.specs.Line.{cut_lines, without_cr, next_number, is_data, begins_in_either_case, is_directive, is_name_part, is_named, name_of, operand_of}
+use Rattle.def_text.specs.Line.{cut_lines, without_cr, next_number, is_data, begins_in_either_case, is_directive, is_name_part, is_named, name_of, operand_of, by_mark, advice_of}
 use Rattle.def_text.specs.Lined.{Pass, flushed, with_line, pass_over}
 use Rattle.def_text.specs.Text.{directive}
 use Rattle.def_text.specs.Written.{IsName}
@@ -33,7 +33,7 @@ record IsDirective (l : List ℕ) (m : Mark) : Type 0 where
   stays : without_cr l ≡ l
   no_data : is_data l ≡ false
   is_one : is_directive l ≡ true
-  gives : operand_of l ≡ Some m
+  gives : advice_of l ≡ Some (by_mark m)
   ends : (rest : List ℕ) → cut_lines (l ++ 10 ∷ rest) ≡ l ∷ cut_lines rest
 
 -- neither a line feed nor a carriage return
@@ -72,7 +72,7 @@ directive_line : (cs : List ℕ) (m : Mark) → list_all is_name_char cs ≡ tru
 unfolding begins_in_either_case
 directive_line cs m h e =
     let clean = list_all-append is_clean (codes "C$AD BINOMIAL-CKP ") cs refl (clean_chars cs h) in
-    record { stays = stays_clean (line_with cs) clean; no_data = refl; is_one = refl; gives = e; ends = λ rest. cut_clean (line_with cs) rest clean }
+    record { stays = stays_clean (line_with cs) clean; no_data = refl; is_one = refl; gives = ap (option_map by_mark) e; ends = λ rest. cut_clean (line_with cs) rest clean }
 
 -- a number: one digit or two
 abbrev two_digits : ℕ → List ℕ
@@ -153,7 +153,7 @@ name_line (c ∷ cs) h = directive_line (c ∷ cs) (From (c ∷ cs)) (name_chars
 
 -- what a pass has behind the line of a directive
 abbrev pub behind : Pass → ℕ → Mark → Pass
-behind p k m = record { done = flushed p; current = None; pending = Some (record { mark = m; line = k }) }
+behind p k m = record { done = flushed p; current = None; pending = Some (record { advice = by_mark m; line = k }) }
 
 with_one : (p : Pass) (k : ℕ) (m : Mark) (l : List ℕ) → p.pending ≡ None → IsDirective l m → with_line no_limits p k l ≡ Ok (behind p k m)
 unfolding with_line

@@ -1,16 +1,15 @@
 -- Forming: the scan of the lines of a text gives just the statements that they form.
-use Rattle.std.proofs.Common.{◌≡◌, ℕ, Bool, true, false, cond, List, [], ◌∷◌, ◌++◌, Option, Some, None, Result, Ok, Err, option_map, refl, sym, ap, subst, ◌∙◌}
+use Rattle.std.proofs.Common.{◌≡◌, ℕ, Bool, true, false, cond, List, [], ◌∷◌, ◌++◌, Option, Some, None, Result, Ok, Err, refl, sym, ap, subst, ◌∙◌}
 use Rattle.std.specs.Prelude.{option_to_list, ◌||◌, ◌==◌, ◌&&◌, not}
 use Rattle.std.specs.List.{list_all}
 use Rattle.std.proofs.lemmas.List.{append-nil, append_assoc}
 use Rattle.adj_tree.specs.declared.fault.Refusal.{Refusal}
-use Rattle.adj_tree.specs.declared.stmt.Mark.{Mark}
-use Rattle.adj_tree.specs.declared.stmt.Mark.TheVariants.{Plain}
 use Rattle.def_text.specs.Char.{blank, nought, is_between, is_allowed, folded}
 use Rattle.def_text.specs.Limits.{no_limits}
-use Rattle.def_text.specs.Line.{cut_lines, column, body, without_cr, is_data, next_number, label_of, operand_of, is_directive, is_comment, is_continuation}
+use Rattle.def_text.specs.Line.{cut_lines, column, body, without_cr, is_data, next_number, label_of, advice_of, is_directive, is_comment, is_continuation}
 use Rattle.def_text.specs.Lined.{Lines, Directive, Pass, start, flushed, directive_before, has_room, one_less, with_directive, with_initial, with_continuation, behind_directive, with_line, ended, pass_over, lines_of}
 use Rattle.def_text.specs.Refused.{◌>>=◌}
+use Rattle.def_text.specs.declared.stated.Advice.{Advice}
 use Rattle.def_text.specs.Forming as forming
 use Rattle.def_text.specs.Forming.{Line, numbered, lines_in, Sort, directive, comment, continuation, initial, sort, IsInitial, IsContinued, GoesOn, LeadsTo, statement_at, FormStatements}
 use Rattle.def_text.proofs.LinesMarked.{bind_ok}
@@ -19,7 +18,7 @@ use Rattle.def_text.proofs.LinesMarked.{bind_ok}
 
 -- a statement whose characters go on with these
 abbrev longer : Lines → List ℕ → Lines
-longer s text = record { line = s.line; label = s.label; mark = s.mark; mark_line = s.mark_line; text = s.text ++ text; room = None }
+longer s text = record { line = s.line; label = s.label; advice = s.advice; mark_line = s.mark_line; text = s.text ++ text; room = None }
 
 -- a statement goes on, or a directive waits for one, or neither
 abbrev IsGood : Option Lines → Option Directive → Type 0
@@ -47,7 +46,7 @@ record LeadsToOne (d : Directive) (ls : List Line) (ss : List Lines) : Type 0 wh
   initial_line : IsInitial line label
   goes : GoesOn after text rest
   form : FormStatements rest others
-  is : ss ≡ statement_at d.mark d.line line label text ∷ others
+  is : ss ≡ statement_at d.advice d.line line label text ∷ others
 
 abbrev Left : Option Lines → Option Directive → List Line → List Lines → Type 0
 Left None None ls ss = FormStatements ls ss
@@ -62,7 +61,7 @@ record Gives (done : List Lines) (current : Option Lines) (pending : Option Dire
   left : Left current pending ls others
 
 same_lines : (s : Lines) → s.room ≡ None → s ≡ longer s []
-same_lines s h = let e : s.text ≡ s.text ++ [] = sym (append-nil s.text) in let f : None ≡ s.room = sym h in rw (h) (ap (λ t. record { line = s.line; label = s.label; mark = s.mark; mark_line = s.mark_line; text = t; room = None }) e)
+same_lines s h = let e : s.text ≡ s.text ++ [] = sym (append-nil s.text) in let f : None ≡ s.room = sym h in rw (h) (ap (λ t. record { line = s.line; label = s.label; advice = s.advice; mark_line = s.mark_line; text = t; room = None }) e)
 
 -- where the current statement has ended
 flush : (p : Pass) → IsGood p.current None → (ls : List Line) (ss rest : List Lines) → FormStatements ls rest → ss ≡ flushed p ++ rest → Gives p.done p.current None ls ss
@@ -104,13 +103,13 @@ alone d None h = refl
 alone d (Some s) h = absurd h
 
 module _ (l : Line) (ls : List Line) (ss : List Lines) where
-  by_directive : (p : Pass) → sort l.characters ≡ directive → IsGood p.current p.pending → (q : Pass) → behind_directive p.pending (with_directive p l.number (operand_of l.characters)) ≡ Ok q → Scanned p l ls ss q
-  by_directive p is g q h = by p.pending refl (operand_of l.characters) refl h
+  by_directive : (p : Pass) → sort l.characters ≡ directive → IsGood p.current p.pending → (q : Pass) → behind_directive p.pending (with_directive p l.number (advice_of l.characters)) ≡ Ok q → Scanned p l ls ss q
+  by_directive p is g q h = by p.pending refl (advice_of l.characters) refl h
     where
-      by : (pending : Option Directive) → p.pending ≡ pending → (operand : Option Mark) → operand_of l.characters ≡ operand → behind_directive pending (with_directive p l.number operand) ≡ Ok q → Scanned p l ls ss q
+      by : (pending : Option Directive) → p.pending ≡ pending → (advice : Option Advice) → advice_of l.characters ≡ advice → behind_directive pending (with_directive p l.number advice) ≡ Ok q → Scanned p l ls ss q
       by None e None f h = absurd cc
-      by (Some d) e operand f h = absurd cc
-      by None e (Some mark) f h =
+      by (Some d) e advice f h = absurd cc
+      by None e (Some advice) f h =
           let same = ok_same _ q h in
           subst (Scanned p l ls ss) same (record {
             good = tt;
@@ -165,7 +164,7 @@ module _ (l : Line) (ls : List Line) (ss : List Lines) where
                 others = left.others;
                 goes = forming.GoesOn.continued (record { is = is; sixth = are.0; allowed = are.1 }) left.goes;
                 form = left.form;
-                is = left.is ∙ ap (λ t. record { line = s.line; label = s.label; mark = s.mark; mark_line = s.mark_line; text = t; room = None } ∷ left.others) (append_assoc s.text (folded (body l.characters)) left.text);
+                is = left.is ∙ ap (λ t. record { line = s.line; label = s.label; advice = s.advice; mark_line = s.mark_line; text = t; room = None } ∷ left.others) (append_assoc s.text (folded (body l.characters)) left.text);
               });
             };
           })
@@ -183,7 +182,7 @@ module _ (l : Line) (ls : List Line) (ss : List Lines) where
           subst (Scanned p l ls ss) same (record { good = refl; gives = λ others at left. begins line p.pending refl others at left })
         where
           begins : IsInitial l label → (pending : Option Directive) → p.pending ≡ pending → (others : List Lines) → ss ≡ flushed p ++ others →
-              GoesOnAs (record { line = l.number; label = label; mark = (directive_before pending).mark; mark_line = (directive_before pending).line; text = folded (body l.characters); room = None }) ls others → Gives p.done p.current p.pending (l ∷ ls) ss
+              GoesOnAs (record { line = l.number; label = label; advice = (directive_before pending).advice; mark_line = (directive_before pending).line; text = folded (body l.characters); room = None }) ls others → Gives p.done p.current p.pending (l ∷ ls) ss
           begins line None f others at left =
               rw f (flush p (rw f at g) (l ∷ ls) ss others (subst (FormStatements (l ∷ ls)) (sym left.is) (forming.FormStatements.statement line left.goes left.form)) at)
           begins line (Some d) f others at left =
@@ -209,7 +208,7 @@ sort_initial l h g k = rw (h, g, k) refl
 
 -- what the scan does with a line, by its sort
 abbrev line_by : Sort → Pass → ℕ → List ℕ → Result Pass Refusal
-line_by directive p n l = behind_directive p.pending (with_directive p n (operand_of l))
+line_by directive p n l = behind_directive p.pending (with_directive p n (advice_of l))
 line_by comment p n l = Ok p
 line_by continuation p n l = behind_directive p.pending (with_continuation no_limits p n l p.current)
 line_by initial p n l = with_initial no_limits p n l (label_of l)
@@ -218,7 +217,7 @@ by_sort : (p : Pass) (n : ℕ) (l : List ℕ) → with_line no_limits p n l ≡ 
 unfolding with_line
 by_sort p n l = by (is_directive l) (is_comment l) (is_continuation l)
   where
-    by : (a b c : Bool) → cond a (behind_directive p.pending (with_directive p n (operand_of l))) (cond b (Ok p) (cond c (behind_directive p.pending (with_continuation no_limits p n l p.current)) (with_initial no_limits p n l (label_of l)))) ≡ line_by (cond a directive (cond b comment (cond c continuation initial))) p n l
+    by : (a b c : Bool) → cond a (behind_directive p.pending (with_directive p n (advice_of l))) (cond b (Ok p) (cond c (behind_directive p.pending (with_continuation no_limits p n l p.current)) (with_initial no_limits p n l (label_of l)))) ≡ line_by (cond a directive (cond b comment (cond c continuation initial))) p n l
     by true b c = refl
     by false true c = refl
     by false false true = refl
@@ -274,7 +273,7 @@ record Takes (p : Pass) (l : Line) (ls : List Line) (others : List Lines) : Type
 past : (l : Line) (ls : List Line) (ss : List Lines) → sort l.characters ≡ comment → FormStatements (l ∷ ls) ss → FormStatements ls ss
 past l ls _ is (forming.FormStatements.past_comment also form) = form
 past l ls _ is (forming.FormStatements.statement h goes form) = let never : comment ≡ initial = sym is ∙ h.is in absurd cc
-past l ls _ is (forming.FormStatements.marked also operand leads h goes form) = let never : comment ≡ directive = sym is ∙ also in absurd cc
+past l ls _ is (forming.FormStatements.marked also advice leads h goes form) = let never : comment ≡ directive = sym is ∙ also in absurd cc
 
 -- no lines form no statements
 none_formed : (ss : List Lines) → FormStatements [] ss → ss ≡ []
@@ -285,16 +284,16 @@ module _ (p : Pass) (l : Line) (ls : List Line) (others : List Lines) where
   by_line s e q h = by_sort p l.number l.characters ∙ (ap (λ x. line_by x p l.number l.characters) e ∙ h)
 
   -- an initial line
-  take_initial : (label : ℕ) → IsInitial l label → with_line no_limits p l.number l.characters ≡ Ok (record { done = flushed p; current = Some (record { line = l.number; label = label; mark = (directive_before p.pending).mark; mark_line = (directive_before p.pending).line; text = folded (body l.characters); room = None }); pending = None })
+  take_initial : (label : ℕ) → IsInitial l label → with_line no_limits p l.number l.characters ≡ Ok (record { done = flushed p; current = Some (record { line = l.number; label = label; advice = (directive_before p.pending).advice; mark_line = (directive_before p.pending).line; text = folded (body l.characters); room = None }); pending = None })
   take_initial label h = by_line initial h.is _ (rw (h.labelled, h.sixth, h.allowed) refl)
 
   -- a directive where none waits
-  take_directive : (mark : Mark) → p.pending ≡ None → sort l.characters ≡ directive → operand_of l.characters ≡ Some mark → with_line no_limits p l.number l.characters ≡ Ok (record { done = flushed p; current = None; pending = Some (record { mark = mark; line = l.number }) })
-  take_directive mark e is h = by_line directive is _ (rw (e, h) refl)
+  take_directive : (advice : Advice) → p.pending ≡ None → sort l.characters ≡ directive → advice_of l.characters ≡ Some advice → with_line no_limits p l.number l.characters ≡ Ok (record { done = flushed p; current = None; pending = Some (record { advice = advice; line = l.number }) })
+  take_directive advice e is h = by_line directive is _ (rw (e, h) refl)
 
   -- a continuation line
   take_continued : (s : Lines) → p.current ≡ Some s → p.pending ≡ None → s.room ≡ None → IsContinued l →
-      with_line no_limits p l.number l.characters ≡ Ok (record { done = p.done; current = Some (record { line = s.line; label = s.label; mark = s.mark; mark_line = s.mark_line; text = s.text ++ folded (body l.characters); room = one_less s.room }); pending = None })
+      with_line no_limits p l.number l.characters ≡ Ok (record { done = p.done; current = Some (record { line = s.line; label = s.label; advice = s.advice; mark_line = s.mark_line; text = s.text ++ folded (body l.characters); room = one_less s.room }); pending = None })
   take_continued s e f g h = by_line continuation h.is _ (rw (f, e, h.sixth, h.allowed, g) refl)
 
   -- where the current statement ends, and the lines that are left form statements
@@ -308,9 +307,9 @@ module _ (p : Pass) (l : Line) (ls : List Line) (others : List Lines) where
     left = record { text = text; rest = _; others = ss; goes = goes; form = f; is = refl };
     is = rw e at;
   }
-  take_form g e _ at (forming.FormStatements.marked {mark = mark} {label = label} {text = text} {ss = ss} is operand leads h goes f) skip = record {
+  take_form g e _ at (forming.FormStatements.marked {advice = advice} {label = label} {text = text} {ss = ss} is says leads h goes f) skip = record {
     next = _;
-    takes = take_directive mark e is operand;
+    takes = take_directive advice e is says;
     good = tt;
     behind = _;
     left = record { line = _; after = _; label = label; text = text; rest = _; others = ss; leads = leads; initial_line = h; goes = goes; form = f; is = refl };
@@ -339,7 +338,7 @@ module _ (p : Pass) (l : Line) (ls : List Line) (others : List Lines) where
           others = left.others;
           goes = goes;
           form = form;
-          is = at ∙ ap (λ t. record { line = s.line; label = s.label; mark = s.mark; mark_line = s.mark_line; text = t; room = None } ∷ left.others) (sym (append_assoc s.text (folded (body l.characters)) text));
+          is = at ∙ ap (λ t. record { line = s.line; label = s.label; advice = s.advice; mark_line = s.mark_line; text = t; room = None } ∷ left.others) (sym (append_assoc s.text (folded (body l.characters)) text));
         };
         is = refl;
       }
@@ -351,7 +350,7 @@ module _ (p : Pass) (l : Line) (ls : List Line) (others : List Lines) where
               record { next = p; takes = by_line comment is p refl; good = rw (e, f) g; behind = others; left = rw (e, f) (record { text = []; rest = ls; others = left.others; goes = forming.GoesOn.ends; form = past l ls left.others is form; is = at }); is = refl }
   take None (Some d) e f g left = by left.line left.after left.leads left.initial_line left.goes left.is
     where
-      by : (i : Line) (after : List Line) → LeadsTo (l ∷ ls) i after → IsInitial i left.label → GoesOn after left.text left.rest → others ≡ statement_at d.mark d.line i left.label left.text ∷ left.others → Takes p l ls others
+      by : (i : Line) (after : List Line) → LeadsTo (l ∷ ls) i after → IsInitial i left.label → GoesOn after left.text left.rest → others ≡ statement_at d.advice d.line i left.label left.text ∷ left.others → Takes p l ls others
       by _ _ forming.LeadsTo.here h goes at = record {
         next = _;
         takes = take_initial left.label h;

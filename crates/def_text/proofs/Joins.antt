@@ -55,7 +55,7 @@ continued b = 32 ∷ 32 ∷ 32 ∷ 32 ∷ 32 ∷ 43 ∷ b
 
 -- a statement of this text begins at line n, behind what a pass has
 abbrev pub going : Pass → ℕ → List ℕ → Pass
-going p n text = record { done = flushed p; current = Some (record { line = n; label = 0; mark = (directive_before p.pending).mark; mark_line = (directive_before p.pending).line; text = text; room = None }); pending = None }
+going p n text = record { done = flushed p; current = Some (record { line = n; label = 0; advice = (directive_before p.pending).advice; mark_line = (directive_before p.pending).line; text = text; room = None }); pending = None }
 
 no_directive : (b : List ℕ) → is_directive (32 ∷ b) ≡ false
 unfolding begins_in_either_case

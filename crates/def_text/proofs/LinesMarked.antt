@@ -11,9 +11,10 @@ use Rattle.adj_tree.specs.declared.stmt.Mark.{Mark}
 use Rattle.adj_tree.specs.declared.stmt.Mark.TheVariants.{Count, From}
 use Rattle.def_text.specs.Char.{blank, nought, is_between, is_capital, is_digit, is_name_char, is_blank, are_blank, is_allowed, upper, folded, number_of}
 use Rattle.def_text.specs.Limits.{no_limits}
-use Rattle.def_text.specs.Line.{cut_lines, without_cr, next_number, is_data, column, is_directive, is_comment, is_continuation, body, label_of, snapshots_of, is_name_part, name_of, mark_in, operand, operand_of}
+use Rattle.def_text.specs.Line.{cut_lines, without_cr, next_number, is_data, column, is_directive, is_comment, is_continuation, body, label_of, snapshots_of, is_name_part, name_of, mark_in, operand, operand_of, splits_call, by_mark, by_split, advice_of}
 use Rattle.def_text.specs.Lined.{Lines, Directive, Pass, start, flushed, with_directive, directive_before, with_initial, has_room, with_continuation, behind_directive, with_line, ended, pass_over, lines_of}
 use Rattle.def_text.specs.Refused.{◌>>=◌}
+use Rattle.def_text.specs.declared.stated.Advice.{Advice}
 use Rattle.def_text.specs.Written.{IsName, IsWrittenMark}
 use Rattle.def_text.proofs.Scans.{both_true}
 use Rattle.def_text.proofs.Parts.{then_some}
@@ -21,15 +22,15 @@ use Rattle.def_text.proofs.Parts.{then_some}
 -- the mark before each is written
 abbrev pub AreMarked : List Lines → Type 0
 AreMarked [] = Unit {0}
-AreMarked (s ∷ ss) = IsWrittenMark (mark_of s.mark) × AreMarked ss
+AreMarked (s ∷ ss) = IsWrittenMark (mark_of s.advice.mark) × AreMarked ss
 
 abbrev CurrentMarked : Option Lines → Type 0
 CurrentMarked None = Unit {0}
-CurrentMarked (Some s) = IsWrittenMark (mark_of s.mark)
+CurrentMarked (Some s) = IsWrittenMark (mark_of s.advice.mark)
 
 abbrev PendingMarked : Option Directive → Type 0
 PendingMarked None = Unit {0}
-PendingMarked (Some d) = IsWrittenMark (mark_of d.mark)
+PendingMarked (Some d) = IsWrittenMark (mark_of d.advice.mark)
 
 record IsMarked (p : Pass) : Type 0 where
   before : AreMarked p.done
@@ -47,7 +48,7 @@ current_listed (Some s) h = (h, tt)
 marked-flushed : (p : Pass) → IsMarked p → AreMarked (flushed p)
 marked-flushed p h = marked-append p.done (option_to_list p.current) h.before (current_listed p.current h.now)
 
-pending_mark : (o : Option Directive) → PendingMarked o → IsWrittenMark (mark_of (directive_before o).mark)
+pending_mark : (o : Option Directive) → PendingMarked o → IsWrittenMark (mark_of (directive_before o).advice.mark)
 pending_mark None h = tt
 pending_mark (Some d) h = h
 
@@ -124,9 +125,18 @@ mark_written cs None None m few is e = absurd cc
 operand_written : (l : List ℕ) (m : Mark) → operand_of l ≡ Some m → IsWrittenMark (mark_of m)
 operand_written l m e = let r = then_some mark_in (operand l) m e in mark_written r.0 (snapshots_of r.0) (name_of r.0) m (few_snapshots r.0) (name_is r.0) r.2
 
-keeps_directive : (p : Pass) (n : ℕ) (o : Option Mark) → IsMarked p → ((m : Mark) → o ≡ Some m → IsWrittenMark (mark_of m)) → Keeps (with_directive p n o)
+-- and so is the mark that a directive gives
+advice_written : (l : List ℕ) (a : Advice) → advice_of l ≡ Some a → IsWrittenMark (mark_of a.mark)
+advice_written l a e = by (splits_call l) (operand_of l) refl e
+  where
+    by : (b : Bool) (o : Option Mark) → operand_of l ≡ o → (if b then Some by_split else option_map by_mark o) ≡ Some a → IsWrittenMark (mark_of a.mark)
+    by true o h e = let same : by_split ≡ a = cc in subst (λ (d : Advice). IsWrittenMark (mark_of d.mark)) same tt
+    by false (Some m) h e = let same : by_mark m ≡ a = cc in subst (λ (d : Advice). IsWrittenMark (mark_of d.mark)) same (operand_written l m h)
+    by false None h e = absurd cc
+
+keeps_directive : (p : Pass) (n : ℕ) (o : Option Advice) → IsMarked p → ((a : Advice) → o ≡ Some a → IsWrittenMark (mark_of a.mark)) → Keeps (with_directive p n o)
 keeps_directive p n None h few = keeps_err _
-keeps_directive p n (Some m) h few = keeps_ok _ (record { before = marked-flushed p h; now = tt; next = few m refl })
+keeps_directive p n (Some a) h few = keeps_ok _ (record { before = marked-flushed p h; now = tt; next = few a refl })
 
 keeps_behind : (o : Option Directive) (r : Result Pass Refusal) → Keeps r → Keeps (behind_directive o r)
 keeps_behind None r h = h
@@ -147,7 +157,7 @@ keeps_continuation p n l (Some s) h c =
 keeps_line : (p : Pass) (n : ℕ) (l : List ℕ) → IsMarked p → Keeps (with_line no_limits p n l)
 unfolding with_line
 keeps_line p n l h =
-    keeps_if (is_directive l) _ _ (keeps_behind p.pending (with_directive p n (operand_of l)) (keeps_directive p n (operand_of l) h (operand_written l)))
+    keeps_if (is_directive l) _ _ (keeps_behind p.pending (with_directive p n (advice_of l)) (keeps_directive p n (advice_of l) h (advice_written l)))
     (keeps_if (is_comment l) _ _ (keeps_ok p h)
     (keeps_if (is_continuation l) _ _ (keeps_behind p.pending (with_continuation no_limits p n l p.current) (keeps_continuation p n l p.current h h.now))
     (keeps_initial p n l (label_of l) h)))

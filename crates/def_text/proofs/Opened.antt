@@ -160,7 +160,7 @@ if_tokens c h =
 
 -- these lines as a block IF
 abbrev pub if_statement : Lines → Test → Stated
-if_statement s c = record { line = s.line; label = s.label; mark = s.mark; mark_line = s.mark_line; kind = classes.BlockIf; text = s.text; tokens = tokens_at 2 (guard_lexemes c) }
+if_statement s c = record { line = s.line; label = s.label; mark = s.advice.mark; split = s.advice.split; mark_line = s.mark_line; kind = classes.BlockIf; text = s.text; tokens = tokens_at 2 (guard_lexemes c) }
 
 -- lines with the characters of a block IF are that block IF
 pub states_if : (s : Lines) (c : Test) → s.text ≡ if_chars c → IsWrittenTest c → stated no_limits s ≡ Ok (if_statement s c)

@@ -8,14 +8,14 @@ use Rattle.def_text.specs.Form.{Form, Statement, at}
 use Rattle.def_text.specs.Limits.{no_limits}
 use Rattle.def_text.specs.Line.{cut_lines, next_number}
 use Rattle.def_text.specs.Lined.{Lines, Pass, flushed, directive_before, start, pass_over}
-use Rattle.def_text.specs.Reads.{ReadsShared}
+use Rattle.def_text.specs.Reads.{ReadsShared, ReadsSplits}
 use Rattle.def_text.specs.Text.{directive, statement}
 use Rattle.def_text.specs.Unit.{ReadsUnits}
 use Rattle.def_text.proofs.Directives.{behind, HasLine, over_directive}
 use Rattle.def_text.proofs.Joins.{AreAllowed, going}
 use Rattle.def_text.proofs.Laying.{joins}
 use Rattle.def_text.proofs.Said as said
-use Rattle.def_text.proofs.Said.{Says, AllSay, reads_said}
+use Rattle.def_text.proofs.Said.{Says, AllSay, reads_said, splits_said}
 
 -- characters that say a form behind a directive with this mark, or without one
 pub record SaysChars (mark : Mark) (chars : List ℕ) (f : Form) : Type 0 where
@@ -24,7 +24,7 @@ pub record SaysChars (mark : Mark) (chars : List ℕ) (f : Form) : Type 0 where
   pub are : chars ≡ first ∷ others
   pub some : is_blank first ≡ false
   pub allowed : AreAllowed (first ∷ others)
-  pub says : (s : Lines) → s.text ≡ folded chars → mark_of s.mark ≡ mark → Says s f
+  pub says : (s : Lines) → s.text ≡ folded chars → mark_of s.advice.mark ≡ mark → Says s f
 
 -- a text of printed statements that say these forms
 pub data Printed : List ℕ → List Form → Type 0 where
@@ -39,7 +39,7 @@ pub data AreAt : List Statement → List Form → Type 0 where
 
 -- the statement that begins at line n behind what a pass has
 abbrev begun : Pass → ℕ → List ℕ → Lines
-begun p n text = record { line = n; label = 0; mark = (directive_before p.pending).mark; mark_line = (directive_before p.pending).line; text = text; room = None }
+begun p n text = record { line = n; label = 0; advice = (directive_before p.pending).advice; mark_line = (directive_before p.pending).line; text = text; room = None }
 
 over_statement : (p : Pass) (n : ℕ) (mark : Mark) (chars cs : List ℕ) (f : Form) → SaysChars mark chars f → (m : ℕ) × (pass_over no_limits p n (cut_lines (statement chars ++ cs)) ≡ pass_over no_limits (going p n (folded chars)) m (cut_lines cs))
 over_statement p n mark chars cs f h =
@@ -73,7 +73,7 @@ read_on (more {chars = chars} {cs = cs} {f = f} {fs = fs} s rest) p n h =
     record {
       lines = begun p n text ∷ r.lines;
       statements = at n 0 f ∷ r.statements;
-      say = said.AllSay.more (s.says (begun p n text) refl (ap (λ o. mark_of (directive_before o).mark) h)) r.say;
+      say = said.AllSay.more (s.says (begun p n text) refl (ap (λ o. mark_of (directive_before o).advice.mark) h)) (ap (λ o. (directive_before o).advice.split) h) r.say;
       at_forms = more r.at_forms;
       passed = over.1 ∙ r.passed ∙ ap Ok (append_assoc (flushed p) (begun p n text ∷ []) r.lines);
     }
@@ -88,7 +88,7 @@ read_on (marked {chars = chars} {cs = cs} {f = f} {fs = fs} {m = mark} w s rest)
     record {
       lines = begun q m text ∷ r.lines;
       statements = at m 0 f ∷ r.statements;
-      say = said.AllSay.more (s.says (begun q m text) refl line.same) r.say;
+      say = said.AllSay.more (s.says (begun q m text) refl line.same) refl r.say;
       at_forms = more r.at_forms;
       passed = line.passed ∙ over.1 ∙ r.passed ∙ ap Ok gathered;
     }
@@ -98,3 +98,7 @@ pub printed_reads : (cs : List ℕ) (fs : List Form) → Printed cs fs → (ts :
 printed_reads cs fs h =
     let r = read_on h start 1 refl in
     (r.statements, r.at_forms, λ ps units. reads_said cs r.lines r.statements ps r.passed r.say units)
+
+-- and none of its statements is split
+pub printed_splits : (cs : List ℕ) (fs : List Form) → Printed cs fs → ReadsSplits cs []
+printed_splits cs fs h = let r = read_on h start 1 refl in splits_said cs r.lines r.statements r.passed r.say

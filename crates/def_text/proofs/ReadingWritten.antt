@@ -1,14 +1,14 @@
 -- ReadingWritten: what a text reads as is written, where its literals and extents are words.
 use Rattle.std.proofs.Common.{◌≡◌, ℕ, zero, suc, ◌-◌, Bool, true, false, eqb, List, [], ◌∷◌, ◌++◌, length, take, drop, Option, Some, None, Result, Ok, Err, map, refl, sym, ap, subst, ◌∙◌, arith, inl, inr}
 use Rattle.std.specs.Prelude.{◌||◌, if◌then◌else◌}
-use Rattle.std.specs.List.{All, list_any}
+use Rattle.std.specs.List.{list_any}
 use Rattle.std.proofs.lemmas.Bool.{cases_lt}
 use Rattle.std.proofs.lemmas.List.{take-append-drop, length-take-le, drop_all}
 use Rattle.adj_tree.specs.Code.{Procedure}
 use Rattle.adj_tree.specs.declared.fault.Refusal.{Refusal}
 use Rattle.adj_tree.specs.View.{mark_of}
 use Rattle.adj_tree.specs.declared.stmt.Mark.{Mark}
-use Rattle.adj_tree.specs.Common.{Common, Shared, without_commons}
+use Rattle.adj_tree.specs.Common.{Shared, without_commons}
 use Rattle.def_text.specs.Class.{class_of, is_matched}
 use Rattle.def_text.specs.Form.{Statement}
 use Rattle.def_text.specs.Limits.{no_limits}
@@ -56,7 +56,7 @@ part_named text call k n ts e =
 
 -- a statement with its mark as the lines give it, whose names are names
 record IsNamedStatement (l : Lines) (s : Stated) : Type 0 where
-  mark : s.mark ≡ l.mark
+  mark : s.mark ≡ l.advice.mark
   lexemes : AreLexemes (lexemes_of s.text s.tokens)
 
 -- a statement, if there is one, is such
@@ -71,14 +71,14 @@ named_if l true r q h g = h
 named_if l false r q h g = g
 
 abbrev record_of : Lines → Kind → List Token → Stated
-record_of l kind ts = record { line = l.line; label = l.label; mark = l.mark; mark_line = l.mark_line; kind = kind; text = l.text; tokens = ts }
+record_of l kind ts = record { line = l.line; label = l.label; mark = l.advice.mark; split = l.advice.split; mark_line = l.mark_line; kind = kind; text = l.text; tokens = ts }
 
 named_ok : (l : Lines) (kind : Kind) (ts : List Token) → AreLexemes (lexemes_of l.text ts) → NamedAs l (Ok (record_of l kind ts))
 named_ok l kind ts w s e = let q : record_of l kind ts ≡ s = cc in let P : Stated → Type 0 = IsNamedStatement l in subst P q (record { mark = refl; lexemes = w })
 
 named_tokens : (l : Lines) (kind : Kind) (o : Option (List Token)) → ((ts : List Token) → o ≡ Some ts → AreLexemes (lexemes_of l.text ts)) → NamedAs l (with_tokens no_limits l kind o)
 named_tokens l kind None w = named_err l _
-named_tokens l kind (Some ts) w = named_if l (list_any (is_too_long None) ts || is_marked_long None kind l.mark) _ _ (named_err l _) (named_ok l kind ts (w ts refl))
+named_tokens l kind (Some ts) w = named_if l (list_any (is_too_long None) ts || is_marked_long None kind l.advice.mark) _ _ (named_err l _) (named_ok l kind ts (w ts refl))
 
 kind_named : (l : Lines) (kind : Kind) (ts : List Token) → tokens_of kind l.text ≡ Some ts → AreLexemes (lexemes_of l.text ts)
 kind_named l kind ts e = part_named l.text (call_place kind l.text) (keyword_len kind l.text) (length l.text - ending_len kind - keyword_len kind l.text) ts e
@@ -109,7 +109,7 @@ all_named (l ∷ ls) ss m e =
 
 forms_written : {ss : List Stated} {ts : List Statement} → ReadsAll ss ts → AreNamedStatements ss → AreWrittenForms ts
 forms_written texts.ReadsAll.none h = tt
-forms_written (texts.ReadsAll.more d rest) h = (form_written d h.1 h.0, forms_written rest h.2)
+forms_written (texts.ReadsAll.more split d rest) h = (form_written d h.1 h.0, forms_written rest h.2)
 
 -- with its COMMON statements
 pub shared_reading_written : (bytes : List ℕ) (ss : List Shared) → ReadsShared bytes ss → AllFit ss → AreWritten ss

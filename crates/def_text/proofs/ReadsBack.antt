@@ -8,13 +8,14 @@ use Rattle.def_text.specs.declared.stated.Kind.TheVariants as classes
 use Rattle.def_text.specs.Char.{comma, equals}
 use Rattle.def_text.specs.Form.{Form, subroutine, implicit_none, integers, simple, opens_do, opens_while, end_do, opens_if, otherwise, end_if, ends, ReadsForm}
 use Rattle.def_text.specs.Form as forms
+use Rattle.def_text.specs.Reads.{ReadsSplits}
 use Rattle.def_text.specs.ReadsAs.{ReadsAs}
 use Rattle.def_text.specs.Text.{statement, bracketed, var_text, term_text, term_texts, place_text, test_text, runtime_name, runtime_actuals, directive, step_text, act_text, code_text, else_text, extent_text, declaration_text, implicit_text, procedure_text, text_of}
 use Rattle.def_text.specs.Written.{IsWrittenMark}
 use Rattle.def_text.proofs.Placed.{act_forms, code_forms, else_forms, item_of, declaration_forms, implicit_forms, procedure_forms, program_forms, program_back}
 use Rattle.def_text.proofs.Plain.{is_end, is_end_if, is_end_do, is_else, is_implicit}
 use Rattle.def_text.proofs.Printed as printed
-use Rattle.def_text.proofs.Printed.{SaysChars, Printed, printed_reads}
+use Rattle.def_text.proofs.Printed.{SaysChars, Printed, printed_reads, printed_splits}
 use Rattle.def_text.proofs.Sayings.{says_lexemes}
 
 -- the characters of each statement say it
@@ -140,3 +141,7 @@ reads_back ps h =
     let r = printed_reads (text_of ps) (program_forms ps) (printed_program ps h) in
     let b = program_back ps r.0 r.1 in
     (b.0, r.2 (map without_commons b.0) b.1, b.2)
+
+-- and has no directive that splits a call
+pub splits_back : (ps : List Procedure) → SaidProgram ps → ReadsSplits (text_of ps) []
+splits_back ps h = printed_splits (text_of ps) (program_forms ps) (printed_program ps h)

@@ -31,7 +31,7 @@ pub record IsStatement (kind : Kind) (keyword : List ℕ) (ws : List Lexeme) : T
 
 -- a statement of these lines, of this class, with these lexemes behind its keyword
 abbrev pub statement_of : Lines → Kind → List ℕ → List Lexeme → Stated
-statement_of s kind keyword ws = record { line = s.line; label = s.label; mark = s.mark; mark_line = s.mark_line; kind = kind; text = s.text; tokens = tokens_at (length keyword) ws }
+statement_of s kind keyword ws = record { line = s.line; label = s.label; mark = s.advice.mark; split = s.advice.split; mark_line = s.mark_line; kind = kind; text = s.text; tokens = tokens_at (length keyword) ws }
 
 pub none_too_long : (ts : List Token) → list_any (is_too_long None) ts ≡ false
 none_too_long [] = refl

@@ -4,20 +4,20 @@ use Rattle.std.specs.Prelude.{IfOk, option_to_list, ◌||◌, ◌==◌, ◌&&◌
 use Rattle.std.specs.List.{list_all, list_any}
 use Rattle.std.proofs.lemmas.List.{map-append}
 use Rattle.adj_tree.specs.declared.fault.Refusal.{Refusal}
-use Rattle.adj_tree.specs.declared.stmt.Mark.{Mark}
 use Rattle.def_text.specs.Char.{blank, nought, is_between, is_allowed, folded}
 use Rattle.def_text.specs.Class.{class_of, is_matched}
 use Rattle.def_text.specs.Limits.{Limits, no_limits}
-use Rattle.def_text.specs.Line.{cut_lines, column, body, without_cr, is_data, next_number, label_of, operand_of, is_directive, is_comment, is_continuation}
+use Rattle.def_text.specs.Line.{cut_lines, column, body, without_cr, is_data, next_number, label_of, advice_of, is_directive, is_comment, is_continuation}
 use Rattle.def_text.specs.Lined.{Lines, Directive, Pass, start, flushed, directive_before, has_room, with_directive, with_initial, with_continuation, behind_directive, with_line, ended, pass_over, lines_of}
 use Rattle.def_text.specs.Refused.{◌>>=◌}
 use Rattle.def_text.specs.Stated.{tokens_of, is_too_long, is_marked_long, with_tokens, with_class, stated, all_stated, statements_of}
+use Rattle.def_text.specs.declared.stated.Advice.{Advice}
 use Rattle.def_text.specs.declared.stated.Kind.{Kind}
 use Rattle.def_text.specs.declared.token.Token.{Token}
 
 -- a statement so far, with room for any number of lines
 abbrev pub freed : Lines → Lines
-freed s = record { line = s.line; label = s.label; mark = s.mark; mark_line = s.mark_line; text = s.text; room = None }
+freed s = record { line = s.line; label = s.label; advice = s.advice; mark_line = s.mark_line; text = s.text; room = None }
 
 -- the same of all that is read so far
 abbrev freed_pass : Pass → Pass
@@ -49,16 +49,16 @@ flushed_freed p = ap (λ ss. map freed p.done ++ ss) (listed p.current) ∙ sym 
     listed None = refl
     listed (Some s) = refl
 
-directive_follows : (p : Pass) (n : ℕ) (operand : Option Mark) → Follows freed_pass (with_directive p n operand) (with_directive (freed_pass p) n operand)
+directive_follows : (p : Pass) (n : ℕ) (advice : Option Advice) → Follows freed_pass (with_directive p n advice) (with_directive (freed_pass p) n advice)
 directive_follows p n None = tt
-directive_follows p n (Some mark) = ap (λ ss. Ok (record { done = ss; current = None; pending = Some (record { mark = mark; line = n }) })) (flushed_freed p)
+directive_follows p n (Some advice) = ap (λ ss. Ok (record { done = ss; current = None; pending = Some (record { advice = advice; line = n }) })) (flushed_freed p)
 
 initial_follows : (limits : Limits) (p : Pass) (n : ℕ) (l : List ℕ) (label : Option ℕ) → Follows freed_pass (with_initial limits p n l label) (with_initial no_limits (freed_pass p) n l label)
 initial_follows limits p n l None = tt
 initial_follows limits p n l (Some label) =
     follows_if freed_pass (not (column l 6 == blank || column l 6 == nought)) _ _ _ (
     follows_if freed_pass (not (list_all is_allowed (body l))) _ _ _ (
-    ap (λ ss. Ok (record { done = ss; current = Some (record { line = n; label = label; mark = (directive_before p.pending).mark; mark_line = (directive_before p.pending).line; text = folded (body l); room = None }); pending = None })) (flushed_freed p)))
+    ap (λ ss. Ok (record { done = ss; current = Some (record { line = n; label = label; advice = (directive_before p.pending).advice; mark_line = (directive_before p.pending).line; text = folded (body l); room = None }); pending = None })) (flushed_freed p)))
 
 -- a test that only one side makes
 follows_alone : {X Y : Type 0} (f : X → Y) (b : Bool) (e : Refusal) (x : Result X Refusal) (y : Result Y Refusal) → Follows f x y → Follows f (cond b (Err e) x) y
@@ -78,7 +78,7 @@ behind_follows (Some d) x y h = tt
 line_follows : (limits : Limits) (p : Pass) (n : ℕ) (l : List ℕ) → Follows freed_pass (with_line limits p n l) (with_line no_limits (freed_pass p) n l)
 unfolding with_line
 line_follows limits p n l =
-    follows_both freed_pass (is_directive l) _ _ _ _ (behind_follows p.pending _ _ (directive_follows p n (operand_of l))) (
+    follows_both freed_pass (is_directive l) _ _ _ _ (behind_follows p.pending _ _ (directive_follows p n (advice_of l))) (
     follows_both freed_pass (is_comment l) _ _ _ _ refl (
     follows_both freed_pass (is_continuation l) _ _ _ _ (behind_follows p.pending _ _ (continuation_follows limits p n l p.current))
     (initial_follows limits p n l (label_of l))))
@@ -100,7 +100,7 @@ none_too_long (t ∷ ts) = none_too_long ts
 
 tokens_follow : (limits : Limits) (s : Lines) (kind : Kind) (tokens : Option (List Token)) → Follows (λ x. x) (with_tokens limits s kind tokens) (with_tokens no_limits (freed s) kind tokens)
 tokens_follow limits s kind None = tt
-tokens_follow limits s kind (Some tokens) = follows_alone (λ x. x) (list_any (is_too_long limits.name) tokens || is_marked_long limits.name kind s.mark) _ _ _ (rw (none_too_long tokens) refl)
+tokens_follow limits s kind (Some tokens) = follows_alone (λ x. x) (list_any (is_too_long limits.name) tokens || is_marked_long limits.name kind s.advice.mark) _ _ _ (rw (none_too_long tokens) refl)
 
 class_follows : (limits : Limits) (s : Lines) (class : Option Kind) → Follows (λ x. x) (with_class limits s class) (with_class no_limits (freed s) class)
 class_follows limits s None = tt

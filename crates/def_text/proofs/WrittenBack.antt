@@ -1,14 +1,19 @@
 -- WrittenBack: the text of a written program reads as it.
-use Rattle.std.proofs.Common.{ℕ, suc, List, [], ◌∷◌, arith}
+use Rattle.std.proofs.Common.{◌≡◌, ℕ, suc, List, [], ◌∷◌, Result, Ok, sym, ap, ◌∙◌, arith}
 use Rattle.std.specs.List.{All}
 use Rattle.adj_tree.specs.Code.{Act, Code, assign, choose, loop, during, call, runtime, stop, step, Declaration, Procedure}
+use Rattle.adj_tree.specs.declared.fault.Refusal.{Refusal}
+use Rattle.def_text.specs.Reads.{ReadsSplits}
 use Rattle.def_text.specs.ReadsAs.{ReadsAs}
+use Rattle.def_text.specs.Splits.{split_lines}
 use Rattle.def_text.specs.Text.{text_of}
+use Rattle.def_text.specs.declared.stated.Stated.{Stated}
 use Rattle.def_text.specs.Written.{IsName, IsWrittenAct, IsWrittenCode, IsWrittenDeclaration, IsWrittenProcedure, IsWritten}
 use Rattle.def_text.proofs.BranchSays.{says_if}
 use Rattle.def_text.proofs.Called.{each_extent}
+use Rattle.def_text.proofs.Cut.{text_forms}
 use Rattle.def_text.proofs.Plain.{AreNames}
-use Rattle.def_text.proofs.ReadsBack.{SaidAct, SaidCode, SaidDeclarations, SaidProcedure, SaidProgram, reads_back}
+use Rattle.def_text.proofs.ReadsBack.{SaidAct, SaidCode, SaidDeclarations, SaidProcedure, SaidProgram, reads_back, splits_back}
 use Rattle.def_text.proofs.Repeated.{says_while}
 use Rattle.def_text.proofs.TermSpaced.{is_name-name}
 use Rattle.def_text.proofs.WrittenSays.{says_assign, says_call, says_runtime, says_declaration, says_heading, says_do}
@@ -53,3 +58,16 @@ says_program (p ∷ ps) h = (says_unit p (all_first IsWrittenProcedure p ps h), 
 
 pub written_reads_back : (ps : List Procedure) → IsWritten ps → ReadsAs (text_of ps) ps
 written_reads_back ps h = reads_back ps (says_program ps h)
+
+-- no call of it is split
+pub written_splits_back : (ps : List Procedure) → IsWritten ps → ReadsSplits (text_of ps) []
+written_splits_back ps h = splits_back ps (says_program ps h)
+
+same_statements : (xs ys : List Stated) → ◌≡◌ {A = Result (List Stated) Refusal} (Ok xs) (Ok ys) → xs ≡ ys
+same_statements xs ys h = cc
+
+-- the calls of a text that are split stand on one list of lines
+pub one_splitting : (bytes lines others : List ℕ) → ReadsSplits bytes lines → ReadsSplits bytes others → lines ≡ others
+one_splitting bytes lines others h g =
+    let same = same_statements h.stated g.stated (sym (text_forms bytes h.stated h.lines_form) ∙ text_forms bytes g.stated g.lines_form) in
+    h.marked ∙ (ap split_lines same ∙ sym g.marked)

@@ -29,7 +29,7 @@ pub data Form : Type 0 where
 pub data Statement : Type 0 where
   at : ℕ → ℕ → Form → Statement
 
--- ReadsForm mark class lexemes form: a statement of this class with these lexemes behind its keyword says this; only a DO that is no DO WHILE has a directive before it
+-- ReadsForm mark class lexemes form: a statement of this class with these lexemes behind its keyword says this; only a DO that is no DO WHILE has a mark
 pub data ReadsForm : Mark → Kind → List Lexeme → Form → Type 0 where
   heading : {ts : List Lexeme} {x : List ℕ} {dummies : List (List ℕ)} → ReadsHead ts x dummies → ReadsForm unmarked Subroutine ts (subroutine x dummies)
   implicit : ReadsForm unmarked ImplicitNone [] implicit_none

@@ -1,15 +1,14 @@
 -- Forming: which statements the lines of a text form, and which tokens their characters. (ANSI X3.9-1978, 3.2 to 3.4)
-use Rattle.std.specs.Prelude.{◌≡◌, ℕ, ◌+◌, ◌-◌, Bool, true, ◌==◌, ◌||◌, List, [], ◌∷◌, ◌++◌, length, drop, Option, Some, None, if◌then◌else◌}
+use Rattle.std.specs.Prelude.{◌≡◌, ℕ, ◌+◌, ◌-◌, true, ◌==◌, ◌||◌, List, [], ◌∷◌, ◌++◌, length, drop, Option, Some, None, if◌then◌else◌}
 use Rattle.std.specs.List.{list_all}
-use Rattle.adj_tree.specs.declared.stmt.Mark.{Mark}
-use Rattle.adj_tree.specs.declared.stmt.Mark.TheVariants.{Plain}
 use Rattle.def_text.specs.Char.{blank, nought, is_between, is_allowed, folded}
-use Rattle.def_text.specs.Line.{cut_lines, without_cr, next_number, is_data, column, is_directive, is_comment, is_continuation, body, label_of, operand_of}
+use Rattle.def_text.specs.Line.{cut_lines, without_cr, next_number, is_data, column, is_directive, is_comment, is_continuation, body, label_of, no_advice, advice_of}
 use Rattle.def_text.specs.Lined.{Lines}
 use Rattle.def_text.specs.Class.{class_of, is_matched}
 use Rattle.def_text.specs.Lexeme.{part}
 use Rattle.def_text.specs.Stated.{keyword_len, ending_len, call_place}
 use Rattle.def_text.specs.Token.{token_here, token_at}
+use Rattle.def_text.specs.declared.stated.Advice.{Advice}
 use Rattle.def_text.specs.declared.stated.Stated.{Stated}
 use Rattle.def_text.specs.declared.token.Token.{Token}
 use Rattle.def_text.specs.declared.token.TokenKind.{TokenKind}
@@ -63,17 +62,17 @@ pub data LeadsTo : List Line → Line → List Line → Type 0 where
   past_comment : {c l : Line} {ls rest : List Line} → sort c.characters ≡ comment → LeadsTo ls l rest → LeadsTo (c ∷ ls) l rest
 
 -- the statement that begins at a line, with what the directive before it says and that directive's line
-abbrev pub statement_at : Mark → ℕ → Line → ℕ → List ℕ → Lines
-statement_at mark mark_line l label text = record { line = l.number; label = label; mark = mark; mark_line = mark_line; text = folded (body l.characters) ++ text; room = None }
+abbrev pub statement_at : Advice → ℕ → Line → ℕ → List ℕ → Lines
+statement_at advice mark_line l label text = record { line = l.number; label = label; advice = advice; mark_line = mark_line; text = folded (body l.characters) ++ text; room = None }
 
 -- FormStatements lines statements: an initial line and its continuation lines are a statement, comments are nothing, and a directive stands before a statement
 pub data FormStatements : List Line → List Lines → Type 0 where
   none : FormStatements [] []
   past_comment : {l : Line} {ls : List Line} {ss : List Lines} → sort l.characters ≡ comment → FormStatements ls ss → FormStatements (l ∷ ls) ss
-  statement : {l : Line} {ls rest : List Line} {label : ℕ} {text : List ℕ} {ss : List Lines} → IsInitial l label → GoesOn ls text rest → FormStatements rest ss → FormStatements (l ∷ ls) (statement_at Plain 0 l label text ∷ ss)
-  marked : {d l : Line} {ls after rest : List Line} {mark : Mark} {label : ℕ} {text : List ℕ} {ss : List Lines} →
-      sort d.characters ≡ directive → operand_of d.characters ≡ Some mark → LeadsTo ls l after → IsInitial l label → GoesOn after text rest → FormStatements rest ss →
-      FormStatements (d ∷ ls) (statement_at mark d.number l label text ∷ ss)
+  statement : {l : Line} {ls rest : List Line} {label : ℕ} {text : List ℕ} {ss : List Lines} → IsInitial l label → GoesOn ls text rest → FormStatements rest ss → FormStatements (l ∷ ls) (statement_at no_advice 0 l label text ∷ ss)
+  marked : {d l : Line} {ls after rest : List Line} {advice : Advice} {label : ℕ} {text : List ℕ} {ss : List Lines} →
+      sort d.characters ≡ directive → advice_of d.characters ≡ Some advice → LeadsTo ls l after → IsInitial l label → GoesOn after text rest → FormStatements rest ss →
+      FormStatements (d ∷ ls) (statement_at advice d.number l label text ∷ ss)
 
 -- ---- tokens
 
@@ -87,7 +86,7 @@ pub record IsStated (s : Lines) (x : Stated) : Type 0 where
   pub class : class_of s.text ≡ Some x.kind
   pub matched : is_matched 0 s.text ≡ true
   pub cut : AreCut (call_place x.kind s.text) (keyword_len x.kind s.text) (part s.text (keyword_len x.kind s.text) (length s.text - ending_len x.kind)) x.tokens
-  pub is : x ≡ record { line = s.line; label = s.label; mark = s.mark; mark_line = s.mark_line; kind = x.kind; text = s.text; tokens = x.tokens }
+  pub is : x ≡ record { line = s.line; label = s.label; mark = s.advice.mark; split = s.advice.split; mark_line = s.mark_line; kind = x.kind; text = s.text; tokens = x.tokens }
 
 pub data AreStated : List Lines → List Stated → Type 0 where
   none : AreStated [] []

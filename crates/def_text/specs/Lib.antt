@@ -8,6 +8,7 @@ pub mod Line
 pub mod Lined
 pub mod Class
 pub mod Stated
+pub mod Splits
 pub mod Forming
 pub mod Data
 pub mod Grammar

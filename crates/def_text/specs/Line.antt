@@ -3,9 +3,10 @@ use Rattle.std.specs.Prelude.{ℕ, ◌+◌, ◌-◌, ◌^◌, min, Bool, true, f
 use Rattle.std.specs.List.{list_all, prefix_len}
 use Rattle.std.specs.Option.{option_or}
 use Rattle.adj_tree.specs.declared.stmt.Mark.{Mark}
-use Rattle.adj_tree.specs.declared.stmt.Mark.TheVariants.{Count, From}
+use Rattle.adj_tree.specs.declared.stmt.Mark.TheVariants.{Plain, Count, From}
 use Rattle.def_text.specs.Char.{capital_c, small_c, line_feed, carriage_return, blank, star, nought, is_between, is_capital, is_digit, is_name_char, is_blank, are_blank, digits_of, upper, folded, number_of}
 use Rattle.def_text.specs.Token.{begins_with}
+use Rattle.def_text.specs.declared.stated.Advice.{Advice}
 
 -- lines, the first with one more character in front
 abbrev pub in_front : ℕ → List (List ℕ) → List (List ℕ)
@@ -68,7 +69,7 @@ label_of l = label (take 5 l)
 abbrev pub behind_blanks : List ℕ → Option (List ℕ)
 behind_blanks cs = if nat_lt 0 (prefix_len is_blank cs) then Some (drop (prefix_len is_blank cs) cs) else None
 
--- what stands behind the name of the directive
+-- what stands behind the name of a directive that gives snapshots
 abbrev pub behind_name : List ℕ → Option (List ℕ)
 behind_name cs = if begins_in_either_case (codes "BINOMIAL-CKP") cs then Some (drop 12 cs) else None
 
@@ -99,6 +100,29 @@ mark_in cs = option_or (option_map Count (snapshots_of cs)) (option_map From (na
 abbrev pub operand : List ℕ → Option (List ℕ)
 operand l = option_and_then behind_blanks (option_and_then behind_name (behind_blanks (drop 4 l)))
 
--- what a directive says: its operand is a number or a name
+-- the snapshots that it gives: its operand is a number or a name
 abbrev pub operand_of : List ℕ → Option Mark
 operand_of l = option_and_then mark_in (operand l)
+
+-- whether `NOCHECKPOINT` stands here, in either case, with blanks alone behind it
+abbrev pub is_no_checkpoint : Option (List ℕ) → Bool
+is_no_checkpoint None = false
+is_no_checkpoint (Some cs) = begins_in_either_case (codes "NOCHECKPOINT") cs && are_blank (drop 12 cs)
+
+-- whether a directive splits a call: it is `C$AD`, blanks, `NOCHECKPOINT`, and blanks to its end
+abbrev pub splits_call : List ℕ → Bool
+splits_call l = is_no_checkpoint (behind_blanks (drop 4 l))
+
+-- what is said of a statement by snapshots, by a split call, and by no directive
+abbrev pub by_mark : Mark → Advice
+by_mark m = record { mark = m; split = false }
+
+abbrev pub by_split : Advice
+by_split = record { mark = Plain; split = true }
+
+abbrev pub no_advice : Advice
+no_advice = by_mark Plain
+
+-- what a directive says, where it has one of the two forms
+abbrev pub advice_of : List ℕ → Option Advice
+advice_of l = if splits_call l then Some by_split else option_map by_mark (operand_of l)

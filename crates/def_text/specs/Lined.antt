@@ -2,26 +2,25 @@
 use Rattle.std.specs.Prelude.{ℕ, ◌-◌, Bool, true, ◌==◌, nat_lt, not, ◌&&◌, ◌||◌, List, [], ◌∷◌, ◌++◌, Option, Some, None, option_to_list, option_map, unwrap_or, Result, Ok, if◌then◌else◌}
 use Rattle.std.specs.List.{list_all}
 use Rattle.adj_tree.specs.declared.fault.Refusal.{Refusal}
-use Rattle.adj_tree.specs.declared.stmt.Mark.{Mark}
-use Rattle.adj_tree.specs.declared.stmt.Mark.TheVariants.{Plain}
 use Rattle.def_text.specs.Char.{blank, nought, is_between, is_allowed, folded}
-use Rattle.def_text.specs.Line.{cut_lines, without_cr, next_number, is_data, column, is_directive, is_comment, is_continuation, body, label_of, operand_of}
+use Rattle.def_text.specs.Line.{cut_lines, without_cr, next_number, is_data, column, is_directive, is_comment, is_continuation, body, label_of, no_advice, advice_of}
 use Rattle.def_text.specs.Limits.{Limits}
 use Rattle.def_text.specs.Refused.{◌>>=◌, refused, limited}
+use Rattle.def_text.specs.declared.stated.Advice.{Advice}
 
 -- a statement so far: the line of its initial line, its label, what the directive before it says and that directive's line,
 -- its characters, and how many continuation lines it may still have, where that is limited
 pub record Lines : Type 0 where
   pub line : ℕ
   pub label : ℕ
-  pub mark : Mark
+  pub advice : Advice
   pub mark_line : ℕ
   pub text : List ℕ
   pub room : Option ℕ
 
 -- a directive that waits for its statement
 pub record Directive : Type 0 where
-  pub mark : Mark
+  pub advice : Advice
   pub line : ℕ
 
 -- the statements before, the one whose lines may go on, and the directive before the next
@@ -37,14 +36,14 @@ start = record { done = []; current = None; pending = None }
 abbrev pub flushed : Pass → List Lines
 flushed p = p.done ++ option_to_list p.current
 
--- a directive with its operand, where it is well formed
-abbrev pub with_directive : Pass → ℕ → Option Mark → Result Pass Refusal
+-- a directive with what it says, where it is well formed
+abbrev pub with_directive : Pass → ℕ → Option Advice → Result Pass Refusal
 with_directive p n None = refused 20 n
-with_directive p n (Some mark) = Ok (record { done = flushed p; current = None; pending = Some (record { mark = mark; line = n }) })
+with_directive p n (Some advice) = Ok (record { done = flushed p; current = None; pending = Some (record { advice = advice; line = n }) })
 
--- the directive before a statement: no mark and line 0 where there is none
+-- the directive before a statement: no advice and line 0 where there is none
 abbrev pub directive_before : Option Directive → Directive
-directive_before None = record { mark = Plain; line = 0 }
+directive_before None = record { advice = no_advice; line = 0 }
 directive_before (Some d) = d
 
 -- an initial line with its label, where columns 1 to 5 are well formed
@@ -53,7 +52,7 @@ with_initial limits p n l None = refused 1 n
 with_initial limits p n l (Some label) =
     if not (column l 6 == blank || column l 6 == nought) then refused 1 n
     else (if not (list_all is_allowed (body l)) then refused 2 n
-    else Ok (record { done = flushed p; current = Some (record { line = n; label = label; mark = (directive_before p.pending).mark; mark_line = (directive_before p.pending).line; text = folded (body l); room = limits.continuations }); pending = None }))
+    else Ok (record { done = flushed p; current = Some (record { line = n; label = label; advice = (directive_before p.pending).advice; mark_line = (directive_before p.pending).line; text = folded (body l); room = limits.continuations }); pending = None }))
 
 -- whether one line more has room, and the room behind it
 abbrev pub has_room : Option ℕ → Bool
@@ -69,7 +68,7 @@ with_continuation limits p n l None = refused 1 n
 with_continuation limits p n l (Some s) =
     if not (is_between 33 126 (column l 6) && list_all is_allowed (body l)) then refused 2 n
     else (if not (has_room s.room) then limited (unwrap_or limits.continuations 0) n
-    else Ok (record { done = p.done; current = Some (record { line = s.line; label = s.label; mark = s.mark; mark_line = s.mark_line; text = s.text ++ folded (body l); room = one_less s.room }); pending = None }))
+    else Ok (record { done = p.done; current = Some (record { line = s.line; label = s.label; advice = s.advice; mark_line = s.mark_line; text = s.text ++ folded (body l); room = one_less s.room }); pending = None }))
 
 -- behind a directive the next line that is no comment is an initial line
 abbrev pub behind_directive : Option Directive → Result Pass Refusal → Result Pass Refusal
@@ -79,7 +78,7 @@ behind_directive (Some d) next = refused 20 d.line
 -- one line more, which is the first that fits of directive, comment, continuation and initial line
 unfoldable pub with_line : Limits → Pass → ℕ → List ℕ → Result Pass Refusal
 with_line limits p n l =
-    if is_directive l then behind_directive p.pending (with_directive p n (operand_of l))
+    if is_directive l then behind_directive p.pending (with_directive p n (advice_of l))
     else (if is_comment l then Ok p
     else (if is_continuation l then behind_directive p.pending (with_continuation limits p n l p.current)
     else with_initial limits p n l (label_of l)))

@@ -75,8 +75,8 @@ is_marked_long (Some limit) kind mark = false
 abbrev pub with_tokens : Limits → Lines → Kind → Option (List Token) → Result Stated Refusal
 with_tokens limits s kind None = refused 4 s.line
 with_tokens limits s kind (Some tokens) =
-    if list_any (is_too_long limits.name) tokens || is_marked_long limits.name kind s.mark then refused 6 s.line
-    else Ok (record { line = s.line; label = s.label; mark = s.mark; mark_line = s.mark_line; kind = kind; text = s.text; tokens = tokens })
+    if list_any (is_too_long limits.name) tokens || is_marked_long limits.name kind s.advice.mark then refused 6 s.line
+    else Ok (record { line = s.line; label = s.label; mark = s.advice.mark; split = s.advice.split; mark_line = s.mark_line; kind = kind; text = s.text; tokens = tokens })
 
 -- a statement with its class
 abbrev pub with_class : Limits → Lines → Option Kind → Result Stated Refusal

@@ -1,6 +1,6 @@
 -- Unit: which statements are a unit, and which are the units of a text.
 use Rattle.std.specs.Prelude.{◌≡◌, ℕ, Bool, true, false, List, [], ◌∷◌, ◌++◌, map}
-use Rattle.adj_tree.specs.Code.{Code, Declaration, Procedure}
+use Rattle.adj_tree.specs.Code.{Code, Declaration}
 use Rattle.adj_tree.specs.Common.{Common, Shared}
 use Rattle.def_text.specs.Statement.{Item}
 use Rattle.def_text.specs.Form.{subroutine, implicit_none, integers, common, leaves, ends, Statement, at}

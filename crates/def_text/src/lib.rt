@@ -9,5 +9,5 @@ pub mod stated;
 pub mod token;
 
 pub use mode::Mode;
-pub use stated::{Kind, Stated};
+pub use stated::{Advice, Kind, Stated};
 pub use token::{Token, TokenKind, Tokens};

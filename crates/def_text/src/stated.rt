@@ -25,6 +25,15 @@ pub enum Kind {
     Common,
 }
 
+/// What a directive says of the statement behind it.
+#[derive(Drop)]
+pub struct Advice {
+    /// How many snapshots a loop has: a number or a name in capitals; plain where it doesn't say so.
+    pub mark: Mark,
+    /// Whether a call is split.
+    pub split: bool,
+}
+
 /// A statement of a text.
 #[derive(Drop)]
 pub struct Stated {
@@ -32,8 +41,10 @@ pub struct Stated {
     pub line: u32,
     /// Its label, or 0 where it has none.
     pub label: u32,
-    /// What the directive directly before it says: a number of snapshots or a name in capitals; plain where there is none.
+    /// What the directive directly before it says: a number of snapshots or a name in capitals; plain where it says neither.
     pub mark: Mark,
+    /// Whether that directive says that a call is split.
+    pub split: bool,
     /// The line of that directive, or 0.
     pub mark_line: u32,
     pub kind: Kind,

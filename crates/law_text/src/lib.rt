@@ -5,4 +5,7 @@
 
 pub mod texts;
 
-pub use texts::{expressions_are_read, readings_are_written, text_reads_back, texts_name_no_lines};
+pub use texts::{
+    expressions_are_read, readings_are_written, splits_are_read, text_reads_back,
+    texts_name_no_lines,
+};

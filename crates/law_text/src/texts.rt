@@ -7,7 +7,7 @@ ghost use Rattle.def_text.specs.Grammar.{Syntax, Sum, Derives};
 ghost use Rattle.def_text.specs.Machine.{Stops, wanting, read, syntaxes};
 ghost use Rattle.adj_tree.specs.Common.{Shared};
 ghost use Rattle.def_text.specs.Fits.{Fits, AllFit};
-ghost use Rattle.def_text.specs.Reads.{ReadsShared, Reads};
+ghost use Rattle.def_text.specs.Reads.{ReadsShared, ReadsSplits, Reads};
 ghost use Rattle.def_text.specs.ReadsAs.{ReadsAs};
 ghost use Rattle.def_text.specs.Text.{text_of};
 ghost use Rattle.def_text.specs.Lexeme.{Lexeme};
@@ -21,6 +21,12 @@ pub fn text_reads_back()
 /// Programs that differ in line numbers alone have one canonical text.
 pub fn texts_name_no_lines()
     ensures one { (program other : List Procedure) → unlined program ≡ unlined other → text_of program ≡ text_of other }
+{}
+
+/// The calls of a text that directives split stand on one list of lines, and the canonical text of a written program has no such directive.
+pub fn splits_are_read()
+    ensures one { (bytes lines others : List ℕ) → ReadsSplits bytes lines → ReadsSplits bytes others → lines ≡ others }
+    ensures none { (program : List Procedure) → IsWritten program → ReadsSplits (text_of program) [] }
 {}
 
 /// The machine that reads an expression at the front of some lexemes reads exactly what is derived there, up to what ends an
