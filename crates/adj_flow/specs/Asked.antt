@@ -19,8 +19,9 @@ units_of f = map (λ p. procedure_of p.unit.now) f.parts.items
 abbrev pub variables_of : Flow → List (List (List ℕ))
 variables_of f = map (λ p. p.variables.now) f.parts.items
 
+-- the calls that are flagged are to be split
 abbrev pub problem_of : Flow → Head → Problem
-problem_of f h = record { units = units_of f; head = h.unit; vars = h.vars; outvars = h.outvars; split = λ n. false }
+problem_of f h = record { units = units_of f; head = h.unit; vars = h.vars; outvars = h.outvars; split = flag f.split }
 
 -- it is the flow of a program, of which the unit of a number is the head: each unit has its numbers, statements and ways; names give the numbers of units;
 -- the units that take part are flagged; no unit has more variables than the width; and the variables of each hold its dummies and what stands in its statements

@@ -2,7 +2,7 @@
 //! and its variables at points as nodes with numbers.
 //!
 //! It stands on the trees, the definitions of `def_flow` and on `adj_reach`. The layers above use that `taking_part` gives
-//! exactly the units that calls reach from the head, and that a flag of a node tells of the variable at the point.
+//! exactly the units that calls reach from the head, that the calls to be split are flagged, and that a flag of a node tells of the variable at the point.
 #![tactic(auto)]
 
 pub mod actuals;
@@ -13,6 +13,7 @@ mod part;
 mod row;
 mod rows;
 pub mod sides;
+mod splits;
 mod standing;
 mod units;
 pub mod variables;

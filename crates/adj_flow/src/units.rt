@@ -6,6 +6,7 @@ ghost use Rattle.def_names.specs.Numbers.{behind};
 ghost use Rattle.def_flow.specs.Parts as spec;
 ghost use Rattle.def_names.specs.StatementsIn.{statements_in};
 ghost use Rattle.def_flow.specs.Problem.{TakesPart};
+ghost use Rattle.def_flow.specs.Splits.{is_line, split_calls};
 ghost use Rattle.adj_reach.specs.Edges.{flag};
 ghost use Rattle.adj_symbols_writes.specs.Graph.{number_from};
 ghost use Rattle.adj_symbols_writes.specs.Table.{value_of};
@@ -15,19 +16,22 @@ use crate::outline::{Outline, add_list};
 use crate::part::taking_part;
 use crate::row::Part;
 use crate::rows::parts;
+use crate::splits::split_flags;
 use crate::standing::Place;
 use crate::way::{Deed, Point};
 use adj_symbols_writes::table::{Numbers, unit_numbers};
 use adj_tree::{Flags, Memory, NameList, Unit};
 use std::alloc::Global;
 
-/// The units of a program with their numbers by name, which of them take part, and an upper bound on the variables of a unit.
+/// The units of a program with their numbers by name, which of them take part, an upper bound on the variables of a unit, and which
+/// calls are to be split, by number.
 #[derive(Drop)]
 pub struct Flow<'a> {
     pub parts: Vec<Part<'a>>,
     pub numbers: Numbers<'a>,
     pub taking: Flags,
     pub width: usize,
+    pub split: Flags,
 }
 
 // Adds the statements of a unit.
@@ -72,12 +76,13 @@ fn width(variables: &[&NameList]) -> usize
 }
 
 impl<'a> Flow<'a> {
-    /// The units, whose variables are these, where the unit of the number `head` is the head.
+    /// The units, whose variables are these, where the unit of the number `head` is the head, and the calls at these lines are to be split.
     pub fn new(
         alloc: Global,
         units: &'a [Unit],
         variables: &[&'a NameList],
         head: usize,
+        splits: &[u32],
     ) -> Result<Flow<'a>, Memory>
         requires variables { length variables.now ≡ length units.now }
         requires room { length units.now + 1 < 2 ^ 64 }
@@ -87,16 +92,19 @@ impl<'a> Flow<'a> {
         ensures taking { IfOk result (λ f. (g : spec.Part) → Contains (spec.parts (map procedure_of units.now)) g →
             (IsTrue (flag f.taking g.number) ↔ TakesPart (record { units = map procedure_of units.now; head = head; vars = []; outvars = []; split = λ n. false }) g)) }
         ensures width { IfOk result (λ f. All (λ v. length v.now ≤ f.width) variables.now) }
+        ensures split { IfOk result (λ f. (n : ℕ) → flag f.split n ≡ split_calls (is_line splits.now) (map procedure_of units.now) n) }
     {
         let taking = taking_part(alloc, units, head)?;
         let count = count(alloc, units)?;
         let parts = parts(alloc, units, variables, count)?;
         let numbers = unit_numbers(alloc, units)?;
+        let split = split_flags(alloc, units, splits)?;
         Ok(Flow {
             parts,
             numbers,
             taking,
             width: width(variables),
+            split,
         })
     }
 }

@@ -69,19 +69,20 @@ row_named ps rows x = unmoved rows (number_from 0 ps x) ∙ row_from 0 ps rows x
 -- ---- all together
 
 -- a unit by its row, among these
-abbrev pub seen_by : List (List ℕ × ℕ) → ℕ → List (List Bool) → List (List Bool) → flags.Activity → List Row → Row → Here
-seen_by numbers w reads writes b us r = record {
+abbrev pub seen_by : List (List ℕ × ℕ) → ℕ → List (List Bool) → List (List Bool) → flags.Activity → (ℕ → Bool) → List Row → Row → Here
+seen_by numbers w reads writes b split us r = record {
   width = w;
   find = λ x. found_at us (value_of x numbers);
   read = λ x. row_by reads (value_of x numbers);
   written = λ x. row_by writes (value_of x numbers);
   activity = activity_in b w r;
+  split = split;
   row = r;
 }
 
 module _ (k : Problem) (vss : List (List (List ℕ))) (numbers : List (List ℕ × ℕ)) (taking : List Bool) (w : ℕ) (known : (x : List ℕ) → value_of x numbers ≡ number_from 0 k.units x)
     (takes : (g : Part) → Contains (parts k.units) g → IsTrue (flag taking g.number) ↔ TakesPart (record { units = k.units; head = k.head; vars = []; outvars = []; split = λ n. false }) g) (lengths : length vss ≡ length k.units) (narrow : All (λ vs. length vs ≤ w) vss)
-    (hold : HoldVariables vss k.units) (rs : List Row) (same : rs ≡ rows vss k.units) (reads writes : List (List Bool)) (reads_are : reads ≡ least_rows read_rule k.units) (writes_are : writes ≡ least_rows write_rule k.units) (b : flags.Activity) (unsplit : (n : ℕ) → k.split n ≡ false) where
+    (hold : HoldVariables vss k.units) (rs : List Row) (same : rs ≡ rows vss k.units) (reads writes : List (List Bool)) (reads_are : reads ≡ least_rows read_rule k.units) (writes_are : writes ≡ least_rows write_rule k.units) (b : flags.Activity) where
   abbrev o : Scope
   o = scope_by vss (flag taking) k.units
 
@@ -110,7 +111,7 @@ module _ (k : Problem) (vss : List (List (List ℕ))) (numbers : List (List ℕ 
   is_written x = ap (row_by writes) (known x) ∙ row_named k.units writes x ∙ ap (λ z. row_of k.units z x) writes_are
 
   abbrev seen : List Row → Row → Here
-  seen = seen_by numbers w reads writes b
+  seen = seen_by numbers w reads writes b k.split
 
   module _ (facts kepts entries : List Bool) (exact : (m : ℕ) → IsTrue (flag facts m) ↔ ReachedFrom (all_edges (seen rs) rs taking) (all_nodes (seen rs) rs taking) m)
       (kept_by : (n : ℕ) → flag kepts n ≡ flag facts (n * (w + 2) + w)) (entry_by : (n : ℕ) → flag entries n ≡ flag facts (n * (w + 2) + (w + 1))) where
@@ -122,8 +123,8 @@ module _ (k : Problem) (vss : List (List (List ℕ))) (numbers : List (List ℕ 
         subst (λ (z : List Row). (m : ℕ) → IsTrue (flag facts m) ↔ ReachedFrom (all_edges (seen z) z taking) (all_nodes (seen z) z taking) m) same exact in
         let edges = edges_same k vss taking w covers b (find us) read written in
         let nodes = nodes_same k vss taking w covers b (find us) read written in
-        let es = flat_map (λ g. unit_edges (here_of vss w a (find us) read written g)) (scope_by vss (flag taking) k.units).parts in
-        let ss = flat_map (λ g. unit_nodes (here_of vss w a (find us) read written g)) (scope_by vss (flag taking) k.units).parts in
-        is_live k o covers w wide a ss es (start_images k vss taking w covers wide a (find us) finds read is_read written is_written unsplit) (step_images k vss taking w covers wide a (find us) finds read is_read written is_written unsplit) facts kepts entries
+        let es = flat_map (λ g. unit_edges (here_of vss w a k.split (find us) read written g)) (scope_by vss (flag taking) k.units).parts in
+        let ss = flat_map (λ g. unit_nodes (here_of vss w a k.split (find us) read written g)) (scope_by vss (flag taking) k.units).parts in
+        is_live k o covers w wide a ss es (start_images k vss taking w covers wide a (find us) finds read is_read written is_written) (step_images k vss taking w covers wide a (find us) finds read is_read written is_written) facts kepts entries
         (λ m. subst (λ z. IsTrue (flag facts m) ↔ ReachedFrom z ss m) edges (subst (λ z. IsTrue (flag facts m) ↔ ReachedFrom (all_edges (seen us) us taking) z m) nodes (exact' m)))
         kept_by entry_by

@@ -58,17 +58,17 @@ images_same xs ys us e i = record {
 }
 
 -- a unit, as the code sees it
-abbrev pub here_of : List (List (List ℕ)) → ℕ → Activity → (List ℕ → Option Row) → (List ℕ → List Bool) → (List ℕ → List Bool) → Part → Here
-here_of vss w a find read written g = record { width = w; find = find; read = read; written = written; activity = a; row = row_in vss g }
+abbrev pub here_of : List (List (List ℕ)) → ℕ → Activity → (ℕ → Bool) → (List ℕ → Option Row) → (List ℕ → List Bool) → (List ℕ → List Bool) → Part → Here
+here_of vss w a split find read written g = record { width = w; find = find; read = read; written = written; activity = a; split = split; row = row_in vss g }
 
 module _ (k : Problem) (vss : List (List (List ℕ))) (flags : List Bool) (w : ℕ) (y : Covers k (scope_by vss (flag flags) k.units)) (wide : IsWide k (scope_by vss (flag flags) k.units) w) (a : Activity)
     (find : List ℕ → Option Row) (finds : (x : List ℕ) → find x ≡ option_map (row_in vss) (find_part (parts k.units) x))
-    (read : List ℕ → List Bool) (reads : (x : List ℕ) → read x ≡ looked_at k.units x) (written : List ℕ → List Bool) (writes : (x : List ℕ) → written x ≡ handed_back k.units x) (unsplit : (n : ℕ) → k.split n ≡ false) where
+    (read : List ℕ → List Bool) (reads : (x : List ℕ) → read x ≡ looked_at k.units x) (written : List ℕ → List Bool) (writes : (x : List ℕ) → written x ≡ handed_back k.units x) where
   abbrev o : Scope
   o = scope_by vss (flag flags) k.units
 
   abbrev here : Part → Here
-  here = here_of vss w a find read written
+  here = here_of vss w a k.split find read written
 
   abbrev Nodes : List Fact → List ℕ → Type 0
   Nodes = Images (HasFact k o w)
@@ -271,13 +271,7 @@ module _ (k : Problem) (vss : List (List (List ℕ))) (flags : List Bool) (w : �
           go (turn_of i x) = kept_one i
 
       begun_images : Nodes (live_starts_at k a g.number s) (statement_nodes h s)
-      begun_images = subst (λ b. Nodes (begun_by b) (statement_nodes h s)) (sym (unsplit s.number)) (images_append own_images (images_if (a.adjointed s.number) (images_append holder_images turned_images)))
-        where
-          -- where the statement begins, by whether it is to be split
-          begun_by : Bool → List Fact
-          begun_by b =
-              live_starts_by a g.number s.number s.act
-              ++ list_if (a.adjointed s.number) (list_if b (kept s.number ∷ []) ++ (map kept (holders s.place) ++ flat_map (at_actuals (live_turned k s.place)) (called (parts k.units) s.act)))
+      begun_images = images_append own_images (images_if (a.adjointed s.number) (images_append (images_if (k.split s.number) (kept_one s.number)) (images_append holder_images turned_images)))
 
     -- ---- the unit
 

@@ -36,10 +36,10 @@ module _ (k : Problem) (vss : List (List (List ℕ))) (taking : List Bool) (w : 
 
   -- a unit by its row
   abbrev seen : Row → Here
-  seen r = record { width = w; find = find; read = read; written = written; activity = activity_in b w r; row = r }
+  seen r = record { width = w; find = find; read = read; written = written; activity = activity_in b w r; split = k.split; row = r }
 
   abbrev here : Part → Here
-  here = here_of vss w a find read written
+  here = here_of vss w a k.split find read written
 
   pub edges_same : all_edges seen (rows vss k.units) taking ≡ flat_map (λ g. unit_edges (here g)) o.parts
   edges_same = scoped k vss taking (λ r. unit_edges (seen r)) (λ g. unit_edges (here g)) (λ g c. refl)

@@ -20,13 +20,15 @@ use Rattle.adj_flow.specs.Rows.{Row}
 use Rattle.adj_live.specs.Numbers.{needed_at, kept_at, wanted_at}
 use Rattle.adj_live.specs.Passed.{used_by, handed_by, passed_by}
 
--- a unit, and what is known of the program: how many variables a unit has at most, the units by name, which of their dummies they read and write, and the activity
+-- a unit, and what is known of the program: how many variables a unit has at most, the units by name, which of their dummies they read and write, the
+-- activity, and the calls that are to be split
 pub record Here : Type 0 where
   pub width : ℕ
   pub find : List ℕ → Option Row
   pub read : List ℕ → List Bool
   pub written : List ℕ → List Bool
   pub activity : Activity
+  pub split : ℕ → Bool
   pub row : Row
 
 abbrev pub needed_here : Here → ℕ → Var → Option ℕ
@@ -58,9 +60,9 @@ turned_nodes h outermost a = []
 turned_nodes h (part_of i) a = []
 turned_nodes h (turn_of i x) a = needed_nodes h (point_before i) (turn_of i x) (passed_by h.read a)
 
--- what an adjointed statement begins for what holds it
+-- what an adjointed statement begins: that it is kept, where it is to be split, and what it begins for what holds it
 abbrev pub held_nodes : Here → Standing → List ℕ
-held_nodes h s = map (kept_at h.width) (holders s.place) ++ turned_nodes h s.place s.act
+held_nodes h s = list_if (h.split s.number) (kept_at h.width s.number ∷ []) ++ (map (kept_at h.width) (holders s.place) ++ turned_nodes h s.place s.act)
 
 abbrev pub statement_nodes : Here → Standing → List ℕ
 statement_nodes h s = own_nodes h s.number s.act ++ list_if (h.activity.adjointed s.number) (held_nodes h s)

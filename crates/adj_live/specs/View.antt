@@ -23,6 +23,7 @@ here_in k r = record {
   read = λ x. row_by (map (λ b. b.now) k.sides.read.now) (value_of x k.units.numbers.now);
   written = λ x. row_by (map (λ b. b.now) k.sides.written.now) (value_of x k.units.numbers.now);
   activity = activity_in k.activity.now k.width r;
+  split = flag k.split.now;
   row = r;
 }
 

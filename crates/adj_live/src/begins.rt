@@ -146,7 +146,7 @@ fn add_turned(
     }
 }
 
-// Adds what an adjointed statement begins for what holds it.
+// Adds what an adjointed statement begins: it is kept, if it is to be split, and so is what holds it.
 fn add_held(
     alloc: Global,
     nodes: &mut Vec<usize>,
@@ -156,6 +156,12 @@ fn add_held(
     ensures added { OnOk result (nodes.new.items ≡ nodes.old.items ++ list_if ((here_at site.entry).activity.adjointed (standing_of standing.now).number) (held_nodes (here_at site.entry) (standing_of standing.now))) }
 {
     if site.is_adjointed(standing.number)? {
+        add_kept(
+            nodes,
+            site.known.width,
+            standing.number,
+            site.is_split(standing.number),
+        )?;
         add_holder(nodes, site.known.width, standing.place)?;
         add_turned(alloc, nodes, site, standing.place, standing.act)?;
     }

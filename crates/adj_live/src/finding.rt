@@ -54,6 +54,7 @@ pub fn live(
         width: flow.width,
         sides,
         activity,
+        split: flow.split.as_slice(),
     };
     let facts = facts(alloc, flow, known)?;
     let stride = stride(flow.width)?;

@@ -15,13 +15,15 @@ use adj_flow::{End, Part, Units};
 use adj_reach::flag_at;
 use adj_tree::{Activity, Memory, Name};
 
-/// The units of a program, how many variables one has at most, which of their dummies they read and write, and the activity.
+/// The units of a program, how many variables one has at most, which of their dummies they read and write, the activity, and the flags of
+/// the calls that are to be split.
 #[derive(Clone, Copy)]
 pub(crate) struct Known<'p, 'a> {
     pub units: Units<'p, 'a>,
     pub width: usize,
     pub sides: Sides<'p>,
     pub activity: &'p Activity,
+    pub split: &'p [bool],
 }
 
 /// A unit of them.
@@ -90,6 +92,13 @@ impl Site<'_, '_> {
     {
         let even = statement.checked_mul(2).ok_or(Memory)?;
         Ok(flag_at(self.known.activity.adjointed.as_slice(), even))
+    }
+
+    /// Whether a statement is a call that is to be split, if it is adjointed.
+    pub(crate) fn is_split(self, statement: usize) -> bool
+        ensures is { result ≡ (here_at self.entry).split statement }
+    {
+        flag_at(self.known.split, statement)
     }
 }
 

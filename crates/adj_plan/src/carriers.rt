@@ -1,7 +1,8 @@
 //! Which variables of a program carry a tangent.
 
-ghost use Rattle.std.specs.Prelude.{◌≡◌, ◌<◌, IfOk, length};
+ghost use Rattle.std.specs.Prelude.{◌≡◌, ◌<◌, ℕ, false, IfOk, length};
 ghost use Rattle.adj_tree.specs.View.{procedures_of};
+ghost use Rattle.adj_reach.specs.Edges.{flag};
 ghost use Rattle.adj_symbols.specs.Numbers.{Fits};
 ghost use Rattle.adj_flow.specs.Asked.{IsFlow, units_of};
 ghost use Rattle.adj_activity.specs.Carried.{AreCarried};
@@ -31,8 +32,9 @@ pub fn carrying<'c>(
     ensures units { IfOk result (λ c. units_of c.flow ≡ procedures_of checked.now.program) }
     ensures flow { IfOk result (λ c. IsFlow c.flow head.now.unit) }
     ensures carried { IfOk result (λ c. AreCarried c.flow head.now c.carried) }
+    ensures split { IfOk result (λ c. (n : ℕ) → flag c.flow.split n ≡ false) }
 {
-    let flow = flow_of(alloc, checked, head.unit)?;
+    let flow = flow_of(alloc, checked, head.unit, &[])?;
     let carried = carried(alloc, &flow, head)?;
     Ok(CarriedFlow { flow, carried })
 }

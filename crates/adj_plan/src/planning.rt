@@ -1,10 +1,12 @@
 //! All marks of a program.
 
-ghost use Rattle.std.specs.Prelude.{◌≡◌, ◌<◌, IfOk, length, map};
+ghost use Rattle.std.specs.Prelude.{◌≡◌, ◌<◌, ℕ, IfOk, length, map};
 ghost use Rattle.adj_tree.specs.View.{procedures_of};
 ghost use Rattle.def_meaning.specs.LeastSet.{least_rows};
 ghost use Rattle.def_meaning.specs.Read.{read_rule};
 ghost use Rattle.def_meaning.specs.Written.{write_rule};
+ghost use Rattle.def_flow.specs.Splits.{is_line, split_calls};
+ghost use Rattle.adj_reach.specs.Edges.{flag};
 ghost use Rattle.adj_symbols.specs.Checked.{AreFacts};
 ghost use Rattle.adj_symbols.specs.Numbers.{Fits};
 ghost use Rattle.adj_flow.specs.Asked.{IsFlow, problem_of, units_of};
@@ -26,21 +28,23 @@ pub struct Planned<'c> {
     pub marks: Marks,
 }
 
-/// The flow of a checked program that fits, for the head of a number.
+/// The flow of a checked program that fits, for the head of a number, where the calls at these lines are to be split.
 pub(crate) fn flow_of<'c>(
     alloc: Global,
     checked: &'c Checked,
     head: usize,
+    splits: &[u32],
 ) -> Result<Flow<'c>, Memory>
     requires fits { Fits checked.now }
     requires head { head < length checked.now.program.units }
     ensures facts { AreFacts checked.now }
     ensures units { IfOk result (λ f. units_of f ≡ procedures_of checked.now.program) }
     ensures flow { IfOk result (λ f. IsFlow f head) }
+    ensures split { IfOk result (λ f. (n : ℕ) → flag f.split n ≡ split_calls (is_line splits.now) (procedures_of checked.now.program) n) }
 {
     let units = checked.program().units.as_slice();
     let variables = variables(alloc, checked)?;
-    flow(alloc, units, variables.as_slice(), head)
+    flow(alloc, units, variables.as_slice(), head, splits)
 }
 
 // The marks of the program of which this is the flow.
@@ -60,16 +64,22 @@ fn marks(alloc: Global, flow: &Flow<'_>, sides: Sides<'_>, head: &Head) -> Resul
     })
 }
 
-/// The marks of a checked program that fits, for a head: its activity, the statements that the forward sweep keeps with the dummies that
-/// are wanted at entries, and the values that are saved.
-pub fn plan<'c>(alloc: Global, checked: &'c Checked, head: &Head) -> Result<Planned<'c>, Memory>
+/// The marks of a checked program that fits, for a head, where the calls at these lines are to be split: its activity, the statements that
+/// the forward sweep keeps with the dummies that are wanted at entries, and the values that are saved.
+pub fn plan<'c>(
+    alloc: Global,
+    checked: &'c Checked,
+    head: &Head,
+    splits: &[u32],
+) -> Result<Planned<'c>, Memory>
     requires fits { Fits checked.now }
     requires head { head.now.unit < length checked.now.program.units }
     ensures units { IfOk result (λ p. units_of p.flow ≡ procedures_of checked.now.program) }
     ensures flow { IfOk result (λ p. IsFlow p.flow head.now.unit) }
+    ensures split { IfOk result (λ p. (n : ℕ) → flag p.flow.split n ≡ split_calls (is_line splits.now) (procedures_of checked.now.program) n) }
     ensures plan { IfOk result (λ p. IsPlan p.flow (problem_of p.flow head.now) p.marks) }
 {
-    let flow = flow_of(alloc, checked, head.unit)?;
+    let flow = flow_of(alloc, checked, head.unit, splits)?;
     let reads = reads(alloc, checked)?;
     let writes = writes(alloc, checked)?;
     let sides = Sides {

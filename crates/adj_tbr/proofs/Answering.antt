@@ -37,7 +37,7 @@ use Rattle.adj_flow.proofs.Scoping.{found_unit}
 use Rattle.adj_flow.proofs.Telling.{told_exact, point_found, point_finds}
 use Rattle.adj_reach.specs.Edges.{ReachedFrom, flag}
 use Rattle.adj_tbr.specs.Bound.{seen}
-use Rattle.adj_tbr.specs.View.{find, held_edges}
+use Rattle.adj_tbr.specs.View.{find, held_edges, split_by}
 use Rattle.adj_tbr.specs.Reads.{read_nodes}
 use Rattle.adj_tbr.specs.Saves.{save_nodes}
 use Rattle.adj_tbr.specs.declared.found.Found.{Found}
@@ -51,7 +51,7 @@ use Rattle.adj_tbr.proofs.Standing.{before, IsRead, Stands, stands_before, stand
 use Rattle.adj_tbr.proofs.Ways.{way_images}
 
 module _ (k : Problem) (vss : List (List (List ℕ))) (taking : List Bool) (w : ℕ) (y : Covers k (scope_by vss (flag taking) k.units)) (wide : IsWide k (scope_by vss (flag taking) k.units) w) (f : Found) (useful : List Bool) (t : Sides) (find : List ℕ → Option Row)
-    (finds : (x : List ℕ) → find x ≡ option_map (row_in vss) (find_part (parts k.units) x)) (read : seen t.read.now ≡ least_rows read_rule k.units) (written : seen t.written.now ≡ least_rows write_rule k.units) (unsplit : (n : ℕ) → k.split n ≡ false)
+    (finds : (x : List ℕ) → find x ≡ option_map (row_in vss) (find_part (parts k.units) x)) (read : seen t.read.now ≡ least_rows read_rule k.units) (written : seen t.written.now ≡ least_rows write_rule k.units) (splits : (n : ℕ) → split_by f n ≡ k.split n)
     (held : List Bool) (reached : (m : ℕ) → IsTrue (flag held m) ↔ ReachedFrom (held_edges f (rows vss k.units) taking w) (read_nodes f t find (rows vss k.units) taking w) m) where
   abbrev o : Scope
   o = scope_by vss (flag taking) k.units
@@ -67,7 +67,7 @@ module _ (k : Problem) (vss : List (List (List ℕ))) (taking : List Bool) (w : 
     stands_listed : IsListed (IsRead k a l) (HeldLeads k l) (HasNode k o w) (λ n. Contains (read_nodes f t find (rows vss k.units) taking w) n) (λ m n. Contains (held_edges f (rows vss k.units) taking w) (m, n))
     stands_listed =
         listed_along (one_number k o w wide IsPoint (one_point k)) (own_number k o w wide IsPoint (one_point k)) (here_has k o w wide IsPoint (one_point k)) (has_here k o w wide IsPoint (one_point k))
-        (images_made before _ (read_nodes f t find (rows vss k.units) taking w) (read_images k vss taking w y f useful needed t find finds read written unsplit)) (way_images k vss taking w y wide f needed) (stands_lists k a l o y)
+        (images_made before _ (read_nodes f t find (rows vss k.units) taking w) (read_images k vss taking w y f useful needed t find finds read written splits)) (way_images k vss taking w y wide f needed) (stands_lists k a l o y)
 
     stands_told : (p : ℕ) (v : Var) → In v (told held o w p) ↔ Stands k a l (p, v)
     stands_told = told_exact k o w IsPoint (unit_at o.parts) (point_found k o y) (point_finds k o y) stands_listed held reached
@@ -81,11 +81,11 @@ module _ (k : Problem) (vss : List (List (List ℕ))) (taking : List Bool) (w : 
           let s : Stands k a l (point_before n.0, n.1) = (stands_before k a l n.0 n.1).1 h.held in
           let q = (reached_known (stands_lists k a l o y) (point_before n.0, n.1) s).0 in
           let m = here_has k o w wide IsStatement (one_statement k) n q in
-          (m.0, m.1, (save_images k vss taking w y f useful needed t held find finds written unsplit).has n m.0 (saves_have k o y a l n.0 n.1 h.may) (m.1, (stands_told (point_before n.0) n.1).1 s))
+          (m.0, m.1, (save_images k vss taking w y f useful needed t held find finds written splits).has n m.0 (saves_have k o y a l n.0 n.1 h.may) (m.1, (stands_told (point_before n.0) n.1).1 s))
 
       only_begun : (m : ℕ) → Contains (save_nodes held f t find (rows vss k.units) taking w) m → (n : Node) × HasNumber k o w IsStatement n m × Saves k a l n.0 n.1
       only_begun m c =
-          let r = (save_images k vss taking w y f useful needed t held find finds written unsplit).only m c in
+          let r = (save_images k vss taking w y f useful needed t held find finds written splits).only m c in
           (r.0, r.2.0, record { may = saves_only k o y a l r.0 r.1; held = (stands_before k a l r.0.0 r.0.1).0 ((stands_told (point_before r.0.0) r.0.1).0 r.2.1) })
 
       saves_listed : IsListed (λ (n : Node). Saves k a l n.0 n.1) (λ (n m : Node). ⊥) (HasNumber k o w IsStatement) (λ m. Contains (save_nodes held f t find (rows vss k.units) taking w) m) (λ m n. Contains {X = ℕ × ℕ} [] (m, n))
@@ -119,8 +119,8 @@ pub record Answer (k : Problem) (vss : List (List (List ℕ))) (numbers : List (
   pub same : rs ≡ rows vss k.units
   pub read : seen t.read.now ≡ least_rows read_rule k.units
   pub written : seen t.written.now ≡ least_rows write_rule k.units
-  -- no call is split
-  pub unsplit : (n : ℕ) → k.split n ≡ false
+  -- the flags of the calls that are to be split
+  pub splits : (n : ℕ) → split_by f n ≡ k.split n
   pub reached : (m : ℕ) → IsTrue (flag held m) ↔ ReachedFrom (held_edges f rs taking w) (read_nodes f t (find rs numbers) rs taking w) m
   pub found : (m : ℕ) → IsTrue (flag saved m) ↔ ReachedFrom [] (save_nodes held f t (find rs numbers) rs taking w) m
 
@@ -144,7 +144,7 @@ module _ (k : Problem) (vss : List (List (List ℕ))) (numbers : List (List ℕ 
   found = subst (λ z. (m : ℕ) → IsTrue (flag saved m) ↔ ReachedFrom [] (save_nodes held f t (find rs numbers) z taking w) m) x.same x.found
 
   pub tells_held : (needed : ℕ → Vars) → IsHeld k (activity_by f useful units w) (liveness_by f needed units w) (held_by (flag f.kept.now) (told held units w) units)
-  tells_held needed = is_held k vss taking w covers wide f useful t (find rs numbers) finds x.read x.written x.unsplit held reached needed
+  tells_held needed = is_held k vss taking w covers wide f useful t (find rs numbers) finds x.read x.written x.splits held reached needed
 
   pub tells_saved : (needed : ℕ → Vars) → IsSaved k (activity_by f useful units w) (liveness_by f needed units w) (λ i. told_in saved units w i (unit_at units.parts (point_before i)))
-  tells_saved needed = is_saved k vss taking w covers wide f useful t (find rs numbers) finds x.read x.written x.unsplit held reached needed saved found
+  tells_saved needed = is_saved k vss taking w covers wide f useful t (find rs numbers) finds x.read x.written x.splits held reached needed saved found

@@ -33,7 +33,7 @@ use Rattle.adj_flow.proofs.Images.{Images, images_none, images_append, images_fl
 use Rattle.adj_flow.proofs.Scoping.{scoped}
 use Rattle.adj_reach.specs.Edges.{flag}
 use Rattle.adj_tbr.specs.Bound.{Passed, bound_from, dummies_at, seen}
-use Rattle.adj_tbr.specs.View.{adjointed_by, kept_by}
+use Rattle.adj_tbr.specs.View.{adjointed_by, kept_by, split_by}
 use Rattle.adj_tbr.specs.Reads.{node_before, assigned_reads, is_wanted, found_reads, call_reads, standing_reads, unit_reads, read_nodes}
 use Rattle.adj_tbr.specs.declared.found.Found.{Found}
 use Rattle.adj_flow.specs.declared.sides.Sides.{Sides}
@@ -58,7 +58,7 @@ flat_if true c f xs = refl
 flat_if {Y = Y} false c f xs = flat_nothing Y xs
 
 module _ (k : Problem) (vss : List (List (List ℕ))) (taking : List Bool) (w : ℕ) (y : Covers k (scope_by vss (flag taking) k.units)) (f : Found) (useful : List Bool) (needed : ℕ → Vars) (t : Sides) (find : List ℕ → Option Row)
-    (finds : (x : List ℕ) → find x ≡ option_map (row_in vss) (find_part (parts k.units) x)) (read : seen t.read.now ≡ least_rows read_rule k.units) (written : seen t.written.now ≡ least_rows write_rule k.units) (unsplit : (n : ℕ) → k.split n ≡ false) where
+    (finds : (x : List ℕ) → find x ≡ option_map (row_in vss) (find_part (parts k.units) x)) (read : seen t.read.now ≡ least_rows read_rule k.units) (written : seen t.written.now ≡ least_rows write_rule k.units) (splits : (n : ℕ) → split_by f n ≡ k.split n) where
   abbrev o : Scope
   o = scope_by vss (flag taking) k.units
 
@@ -96,7 +96,7 @@ module _ (k : Problem) (vss : List (List (List ℕ))) (taking : List Bool) (w : 
     abbrev is_call_read : Part → Passed → Bool
     is_call_read g b = not (turned_by s.place b.2) && ((l.wanted g.number b.1 || ((k.split s.number || is_turn s.place) && is_read k.units g.unit b.1)) && not (is_written k.units g.unit b.1))
 
-    wanted_same : (g : Part) → TakesPart k g → (args : Terms) (b : Passed) → Contains (bound_from 0 g.unit.dummies args) b → is_wanted f t w s.place (row_in vss g) b ≡ is_call_read g b
+    wanted_same : (g : Part) → TakesPart k g → (args : Terms) (b : Passed) → Contains (bound_from 0 g.unit.dummies args) b → is_wanted f t w s (row_in vss g) b ≡ is_call_read g b
     wanted_same g v args b m =
         let q = bound_place 0 g.unit.dummies args b m in
         let n = q.1 in
@@ -106,8 +106,8 @@ module _ (k : Problem) (vss : List (List (List ℕ))) (taking : List Bool) (w : 
         (λ j. flag (slice_index_or (read j) g.number []) (e j)) ∙ dummy_flag read_rule read_rises k.units g there q.0 b.1 q.2 in
         let z : flag (dummies_at t.written.now (row_in vss g)) b.0 ≡ is_written k.units g.unit b.1 =
         (λ j. flag (slice_index_or (written j) g.number []) (e j)) ∙ dummy_flag write_rule write_rises k.units g there q.0 b.1 q.2 in
-        let n : false ≡ k.split s.number = sym (unsplit s.number) in
-        λ j. not (turned_by s.place b.2) && ((told_here k vss taking w y f.entry.now g v (plain b.1) j || ((n j || is_turn s.place) && r j)) && not (z j))
+        let marked : split_by f s.number ≡ k.split s.number = splits s.number in
+        λ j. not (turned_by s.place b.2) && ((told_here k vss taking w y f.entry.now g v (plain b.1) j || ((marked j || is_turn s.place) && r j)) && not (z j))
 
     found_images : (name : List ℕ) (args : Terms) → s.act ≡ call name args → (g : Option Part) → find_part (parts k.units) name ≡ g →
         Images IsRead (flat_map (at_actuals (reads_called k a l s)) (with_args args g)) (found_reads f t w (row_in vss h) s args (option_map (row_in vss) g))
@@ -120,11 +120,11 @@ module _ (k : Problem) (vss : List (List (List ℕ))) (taking : List Bool) (w : 
         let things : flat_map (λ b. list_if (adjointed_by f s.number && is_call_read g b) ((site true s.number s.place, b.2) ∷ [])) (bound_from 0 g.unit.dummies args) ≡ flat_map (at_actuals (reads_called k a l s)) (with_args args (Some g)) =
         sym (flat_map-map (λ (b : List ℕ × Var). reads_called k a l s g b.0 b.1) pair (bound_from 0 g.unit.dummies args)) ∙ ap (flat_map (λ (b : List ℕ × Var). reads_called k a l s g b.0 b.1)) (pairs_bound 0 g.unit.dummies args)
         ∙ sym (append-nil (at_actuals (reads_called k a l s) (g, args))) ∙ sym (flat_map-cons (at_actuals (reads_called k a l s)) (g, args) []) in
-        let numbers : flat_map (λ b. list_if (adjointed_by f s.number && is_wanted f t w s.place (row_in vss g) b) (node_before w (row_in vss h) (site true s.number s.place) b.2)) (bound_from 0 g.unit.dummies args) ≡ found_reads f t w (row_in vss h) s args (Some (row_in vss g)) =
-        flat_if (adjointed_by f s.number) (is_wanted f t w s.place (row_in vss g)) (λ b. node_before w (row_in vss h) (site true s.number s.place) b.2) (bound_from 0 g.unit.dummies args) in
+        let numbers : flat_map (λ b. list_if (adjointed_by f s.number && is_wanted f t w s (row_in vss g) b) (node_before w (row_in vss h) (site true s.number s.place) b.2)) (bound_from 0 g.unit.dummies args) ≡ found_reads f t w (row_in vss h) s args (Some (row_in vss g)) =
+        flat_if (adjointed_by f s.number) (is_wanted f t w s (row_in vss g)) (λ b. node_before w (row_in vss h) (site true s.number s.place) b.2) (bound_from 0 g.unit.dummies args) in
         subst (λ z. Images IsRead z (found_reads f t w (row_in vss h) s args (Some (row_in vss g)))) things (subst (λ z. Images IsRead (flat_map (λ b. list_if (adjointed_by f s.number && is_call_read g b) ((site true s.number s.place, b.2) ∷ [])) (bound_from 0 g.unit.dummies args)) z) numbers
         (images_flat (λ b. list_if (adjointed_by f s.number && is_call_read g b) ((site true s.number s.place, b.2) ∷ []))
-        (λ b. list_if (adjointed_by f s.number && is_wanted f t w s.place (row_in vss g) b) (node_before w (row_in vss h) (site true s.number s.place) b.2)) (bound_from 0 g.unit.dummies args)
+        (λ b. list_if (adjointed_by f s.number && is_wanted f t w s (row_in vss g) b) (node_before w (row_in vss h) (site true s.number s.place) b.2)) (bound_from 0 g.unit.dummies args)
         (λ b m. subst (λ q. Images IsRead (list_if (adjointed_by f s.number && is_call_read g b) ((site true s.number s.place, b.2) ∷ [])) (list_if (adjointed_by f s.number && q) (node_before w (row_in vss h) (site true s.number s.place) b.2))) (sym (wanted_same g v args b m))
         (images_if (adjointed_by f s.number && is_call_read g b) (one_read h (site true s.number s.place) b.2 u (site_point k o y a h s true c))))))
 

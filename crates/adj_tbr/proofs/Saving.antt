@@ -32,8 +32,8 @@ use Rattle.adj_flow.proofs.Images.{Images, images_none, images_append, images_fl
 use Rattle.adj_flow.proofs.Scoping.{scoped, told_there}
 use Rattle.adj_reach.specs.Edges.{flag}
 use Rattle.adj_tbr.specs.Bound.{dummies_at, seen}
-use Rattle.adj_tbr.specs.View.{adjointed_by, kept_by}
-use Rattle.adj_tbr.specs.Saves.{saved_node, own_saves, found_saves, call_saves, standing_saves, unit_saves, save_nodes}
+use Rattle.adj_tbr.specs.View.{adjointed_by, kept_by, split_by}
+use Rattle.adj_tbr.specs.Saves.{saved_node, own_saves, call_may_save, found_saves, call_saves, standing_saves, unit_saves, save_nodes}
 use Rattle.adj_tbr.specs.declared.found.Found.{Found}
 use Rattle.adj_flow.specs.declared.sides.Sides.{Sides}
 use Rattle.adj_tbr.proofs.Given.{activity_by, liveness_by}
@@ -49,7 +49,7 @@ pub one_statement : (k : Problem) (f g : Part) (i : ℕ) → TakesPart k f → T
 one_statement k f g i t u p q = one_point k f g (point_before i) t u p q
 
 module _ (k : Problem) (vss : List (List (List ℕ))) (taking : List Bool) (w : ℕ) (y : Covers k (scope_by vss (flag taking) k.units)) (f : Found) (useful : List Bool) (needed : ℕ → Vars) (t : Sides) (held : List Bool) (find : List ℕ → Option Row)
-    (finds : (x : List ℕ) → find x ≡ option_map (row_in vss) (find_part (parts k.units) x)) (written : seen t.written.now ≡ least_rows write_rule k.units) (unsplit : (n : ℕ) → k.split n ≡ false) where
+    (finds : (x : List ℕ) → find x ≡ option_map (row_in vss) (find_part (parts k.units) x)) (written : seen t.written.now ≡ least_rows write_rule k.units) (splits : (n : ℕ) → split_by f n ≡ k.split n) where
   abbrev o : Scope
   o = scope_by vss (flag taking) k.units
 
@@ -102,7 +102,7 @@ module _ (k : Problem) (vss : List (List (List ℕ))) (taking : List Bool) (w : 
     found_images name args e (Some g) p =
         let v : TakesPart k g = leads u (s, args, record { name = name; stands = c; act = e; finds = p }) in
         subst (λ z. Images IsKept z (found_saves held f t w (row_in vss h) s args (Some (row_in vss g)))) (sym (append-nil (may_save_called k a l s (g, args))) ∙ sym (flat_map-cons (may_save_called k a l s) (g, args) []))
-        (subst (λ b. Images IsKept (saves_by b) (found_saves held f t w (row_in vss h) s args (Some (row_in vss g)))) (sym (unsplit s.number)) (images_if (kept_by f s.number || adjointed_by f s.number)
+        (subst (λ b. Images IsKept (saves_by b) (found_saves held f t w (row_in vss h) s args (Some (row_in vss g)))) (splits s.number) (images_if (call_may_save f s.number)
         (subst (λ z. Images IsKept (map (λ x. (site (adjointed_by f s.number) s.number s.place, x)) z) (flat_map (saved_node held w (row_in vss h) (site (adjointed_by f s.number) s.number s.place)) (handed_in_actuals (dummies_at t.written.now (row_in vss g)) args)))
         (sym (handed_same name args e g v p))
         (images_map (λ x. (site (adjointed_by f s.number) s.number s.place, x)) (saved_node held w (row_in vss h) (site (adjointed_by f s.number) s.number s.place)) (handed_in_actuals (dummies_at t.written.now (row_in vss g)) args)

@@ -2,7 +2,7 @@
 use Rattle.std.specs.Prelude.{ℕ, List, [], ◌++◌, flat_map, Bool, true, Option, Some, None, not, ◌&&◌, ◌||◌}
 use Rattle.adj_tree.specs.Code.{Var, plain, Terms, Act, assign, choose, loop, during, call, runtime}
 use Rattle.def_names.specs.Numbering.{point_before}
-use Rattle.def_flow.specs.Standing.{Place, Standing}
+use Rattle.def_flow.specs.Standing.{Standing}
 use Rattle.def_flow.specs.Uses.{site, turned_by, is_turn}
 use Rattle.def_names.specs.VariableLists.{list_if, vars_in_terms}
 use Rattle.def_flow.specs.AdjointReads.{adjoint_reads_in}
@@ -12,7 +12,7 @@ use Rattle.adj_flow.specs.NodeView.{vars_of, told_at}
 use Rattle.adj_flow.specs.Rows.{Row}
 use Rattle.adj_reach.specs.Edges.{flag}
 use Rattle.adj_tbr.specs.Bound.{Passed, bound_from, dummies_at}
-use Rattle.adj_tbr.specs.View.{adjointed_by, kept_by, active_by}
+use Rattle.adj_tbr.specs.View.{adjointed_by, kept_by, split_by, active_by}
 use Rattle.adj_tbr.specs.declared.found.Found.{Found}
 use Rattle.adj_flow.specs.declared.sides.Sides.{Sides}
 
@@ -33,15 +33,15 @@ assigned_reads f w r i (runtime t) = []
 
 -- ---- calls
 
--- whether an adjointed call at a place reads the actual of a dummy: the dummy is in the entry set, or read in a turn, and isn't written
-abbrev pub is_wanted : Found → Sides → ℕ → Place → Row → Passed → Bool
-is_wanted f t w at g b = not (turned_by at b.2) && ((told_at f.entry.now w g g.part.number (plain b.1) || (is_turn at && flag (dummies_at t.read.now g) b.0)) && not (flag (dummies_at t.written.now g) b.0))
+-- whether an adjointed call reads the actual of a dummy: the dummy is in the entry set, or read in a turn or by a split call, and isn't written
+abbrev pub is_wanted : Found → Sides → ℕ → Standing → Row → Passed → Bool
+is_wanted f t w s g b = not (turned_by s.place b.2) && ((told_at f.entry.now w g g.part.number (plain b.1) || ((split_by f s.number || is_turn s.place) && flag (dummies_at t.read.now g) b.0)) && not (flag (dummies_at t.written.now g) b.0))
 
 -- where a unit was found
 abbrev pub found_reads : Found → Sides → ℕ → Row → Standing → Terms → Option Row → List ℕ
 found_reads f t w r s args None = []
 found_reads f t w r s args (Some g) =
-    list_if (adjointed_by f s.number) (flat_map (λ b. list_if (is_wanted f t w s.place g b) (node_before w r (site true s.number s.place) b.2)) (bound_from 0 g.part.unit.dummies args))
+    list_if (adjointed_by f s.number) (flat_map (λ b. list_if (is_wanted f t w s g b) (node_before w r (site true s.number s.place) b.2)) (bound_from 0 g.part.unit.dummies args))
 
 abbrev pub call_reads : Found → Sides → (List ℕ → Option Row) → ℕ → Row → Standing → Act → List ℕ
 call_reads f t find w r s (assign x subs e) = []

@@ -1,5 +1,5 @@
 -- The values that are saved, as the code goes over the units. A variable of the i-th statement's unit has the number that it has at a point i.
-use Rattle.std.specs.Prelude.{ℕ, List, [], ◌++◌, flat_map, Bool, Option, Some, None, ◌||◌}
+use Rattle.std.specs.Prelude.{ℕ, List, [], ◌++◌, flat_map, Bool, Option, Some, None, not, ◌&&◌, ◌||◌}
 use Rattle.adj_tree.specs.Code.{Var, Terms, Act, assign, choose, loop, during, call, runtime}
 use Rattle.def_names.specs.Numbering.{point_before}
 use Rattle.def_flow.specs.Standing.{Standing}
@@ -11,7 +11,7 @@ use Rattle.adj_flow.specs.NodeView.{vars_of, told_at}
 use Rattle.adj_flow.specs.Rows.{Row}
 use Rattle.adj_reach.specs.Edges.{flag}
 use Rattle.adj_tbr.specs.Bound.{dummies_at}
-use Rattle.adj_tbr.specs.View.{adjointed_by, kept_by}
+use Rattle.adj_tbr.specs.View.{adjointed_by, kept_by, split_by}
 use Rattle.adj_tbr.specs.declared.found.Found.{Found}
 use Rattle.adj_flow.specs.declared.sides.Sides.{Sides}
 
@@ -28,11 +28,15 @@ own_saves held f w r i (during c body) = []
 own_saves held f w r i (call name args) = []
 own_saves held f w r i (runtime t) = []
 
+-- whether a call saves: it is kept or adjointed, and isn't split
+abbrev pub call_may_save : Found → ℕ → Bool
+call_may_save f i = not (split_by f i && adjointed_by f i) && (kept_by f i || adjointed_by f i)
+
 -- by a call of a unit that was found
 abbrev pub found_saves : List Bool → Found → Sides → ℕ → Row → Standing → Terms → Option Row → List ℕ
 found_saves held f t w r s args None = []
 found_saves held f t w r s args (Some g) =
-    list_if (kept_by f s.number || adjointed_by f s.number) (flat_map (saved_node held w r (site (adjointed_by f s.number) s.number s.place)) (handed_in_actuals (dummies_at t.written.now g) args))
+    list_if (call_may_save f s.number) (flat_map (saved_node held w r (site (adjointed_by f s.number) s.number s.place)) (handed_in_actuals (dummies_at t.written.now g) args))
 
 abbrev pub call_saves : List Bool → Found → Sides → (List ℕ → Option Row) → ℕ → Row → Standing → Act → List ℕ
 call_saves held f t find w r s (assign x subs e) = []

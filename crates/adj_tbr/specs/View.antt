@@ -23,6 +23,10 @@ adjointed_by f i = flag f.adjointed.now (2 * i)
 abbrev pub kept_by : Found → ℕ → Bool
 kept_by f i = flag f.kept.now i
 
+-- whether it is a call that is to be split
+abbrev pub split_by : Found → ℕ → Bool
+split_by f i = flag f.split.now i
+
 -- the variables whose occurrences are active in the statement of a number
 abbrev pub active_by : Found → ℕ → Row → ℕ → Vars
 active_by f w r i v = told_at f.varied.now w r (point_before i) v && told_at f.shadowed.now w r r.part.number v

@@ -70,6 +70,7 @@ pub fn tbr(
             shadowed: activity.shadowed.as_slice(),
             kept: kept.kept.as_slice(),
             entry: kept.entry.as_slice(),
+            split: flow.split.as_slice(),
         },
         sides,
         units: Units {

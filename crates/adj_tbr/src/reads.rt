@@ -13,16 +13,14 @@ ghost use Rattle.adj_flow.specs.Rows.{row_of};
 ghost use Rattle.adj_flow.specs.View.{place_of, standing_of};
 ghost use Rattle.adj_reach.specs.Edges.{flag};
 ghost use Rattle.adj_tbr.specs.Bound.{passed_of, dummies_at};
-ghost use Rattle.adj_tbr.specs.View.{find};
+ghost use Rattle.adj_tbr.specs.View.{find, split_by};
 ghost use Rattle.adj_tbr.specs.Reads.{node_before, assigned_reads, is_wanted, found_reads, call_reads, standing_reads, unit_reads, read_nodes};
 
 use crate::bound::{Bound, bounds};
 use crate::found::Found;
 use crate::setting::Setting;
 use adj_flow::variables::add_terms_if;
-use adj_flow::{
-    End, Flow, Occurrences, Part, Place, Point, Standing, add_node, dummies_of, number, told,
-};
+use adj_flow::{End, Flow, Occurrences, Part, Point, Standing, add_node, dummies_of, number, told};
 use adj_reach::flag_at;
 use adj_tree::{Act, Expr, Exprs, Memory, Name};
 use std::alloc::Global;
@@ -119,14 +117,14 @@ fn add_assigned(
 
 // ---- calls
 
-// Whether the dummy of a call's unit is in the entry set or read in a turn.
+// Whether the dummy of a call's unit is in the entry set, or read in a turn or by a split call.
 fn is_looked_at(
     setting: Setting<'_, '_>,
-    place: Place<'_>,
+    standing: &Standing<'_>,
     called: &Part<'_>,
     bound: Bound<'_>,
 ) -> Result<bool, Memory>
-    ensures looked { IfOk result (λ b. b ≡ (told_at setting.entry.found.entry.now setting.entry.width (row_of called.now) (row_of called.now).part.number (plain bound.entry.dummy.now) || (is_turn (place_of place.entry) && flag (dummies_at setting.entry.sides.read.now (row_of called.now)) bound.entry.place))) }
+    ensures looked { IfOk result (λ b. b ≡ (told_at setting.entry.found.entry.now setting.entry.width (row_of called.now) (row_of called.now).part.number (plain bound.entry.dummy.now) || ((split_by setting.entry.found standing.now.number || is_turn (place_of standing.now.place)) && flag (dummies_at setting.entry.sides.read.now (row_of called.now)) bound.entry.place))) }
 {
     let dummy = End {
         part: called,
@@ -136,23 +134,24 @@ fn is_looked_at(
     let is_wanted = told(setting.found.entry, setting.width, dummy)?;
     let read = dummies_of(setting.sides.read, called.number);
     let is_read = flag_at(read, bound.place);
-    let is_turn = place.is_turn();
-    Ok(is_wanted || is_turn && is_read)
+    let is_split = setting.found.is_split(standing.number);
+    let is_turn = standing.place.is_turn();
+    Ok(is_wanted || (is_split || is_turn) && is_read)
 }
 
-// Whether an adjointed call at a place reads the actual of a dummy.
+// Whether an adjointed call reads the actual of a dummy.
 fn is_wanted(
     setting: Setting<'_, '_>,
-    place: Place<'_>,
+    standing: &Standing<'_>,
     called: &Part<'_>,
     bound: Bound<'_>,
 ) -> Result<bool, Memory>
-    ensures wanted { IfOk result (λ b. b ≡ is_wanted setting.entry.found setting.entry.sides setting.entry.width (place_of place.entry) (row_of called.now) (passed_of bound.entry)) }
+    ensures wanted { IfOk result (λ b. b ≡ is_wanted setting.entry.found setting.entry.sides setting.entry.width (standing_of standing.now) (row_of called.now) (passed_of bound.entry)) }
 {
-    let is_looked_at = is_looked_at(setting, place, called, bound)?;
+    let is_looked_at = is_looked_at(setting, standing, called, bound)?;
     let written = dummies_of(setting.sides.written, called.number);
     let is_written = flag_at(written, bound.place);
-    let is_turned = place.turns(bound.actual);
+    let is_turned = standing.place.turns(bound.actual);
     Ok(!is_turned && (is_looked_at && !is_written))
 }
 
@@ -165,12 +164,11 @@ fn add_actuals(
     called: &Part<'_>,
     bounds: &[Bound<'_>],
 ) -> Result<(), Memory>
-    ensures added { OnOk result (nodes.new.items ≡ nodes.old.items ++ flat_map (λ b. list_if (is_wanted setting.entry.found setting.entry.sides setting.entry.width (place_of standing.now.place) (row_of called.now) b) (node_before setting.entry.width (row_of part.now) (site true standing.now.number (place_of standing.now.place)) b.2)) (map passed_of bounds.now)) }
+    ensures added { OnOk result (nodes.new.items ≡ nodes.old.items ++ flat_map (λ b. list_if (is_wanted setting.entry.found setting.entry.sides setting.entry.width (standing_of standing.now) (row_of called.now) b) (node_before setting.entry.width (row_of part.now) (site true standing.now.number (place_of standing.now.place)) b.2)) (map passed_of bounds.now)) }
 {
-    let place = standing.place;
-    let point = number(Point::Before(place.site(true, standing.number)))?;
+    let point = number(Point::Before(standing.place.site(true, standing.number)))?;
     for bound in bounds {
-        let is_wanted = is_wanted(setting, place, called, *bound)?;
+        let is_wanted = is_wanted(setting, standing, called, *bound)?;
         let end = End {
             part,
             point,

@@ -94,7 +94,7 @@ fn add_own(
     }
 }
 
-// Adds what a call of a unit saves.
+// Adds what a call of a unit saves: nothing, where it is split.
 fn add_found(
     alloc: Global,
     nodes: &mut Vec<usize>,
@@ -109,7 +109,8 @@ fn add_found(
 {
     let is_adjointed = setting.found.is_adjointed(standing.number)?;
     let is_kept = setting.found.is_kept(standing.number);
-    if is_kept || is_adjointed {
+    let is_split = setting.found.is_split(standing.number) && is_adjointed;
+    if !is_split && (is_kept || is_adjointed) {
         let written = dummies_of(setting.sides.written, called.number);
         let mut names = Vec::new(alloc);
         add_handed(written, actuals, &mut names)?;

@@ -17,3 +17,4 @@ pub mod Placed
 pub mod OwnPoints
 pub mod Points
 pub mod NumbersSame
+pub mod Unmarked

@@ -14,3 +14,4 @@ pub mod Rules
 pub mod Closure
 pub mod Analysed
 pub mod Scopes
+pub mod Splits

@@ -9,6 +9,7 @@ use Rattle.def_sweep.specs.Program.{emitted_program_with}
 use Rattle.def_kernel.specs.Kernel.{EachUnit}
 use Rattle.def_kernel.specs.Stepped.{kernel_of}
 use Rattle.def_flow.specs.Problem.{Problem}
+use Rattle.def_flow.specs.Splits.{is_line, split_calls}
 use Rattle.def_flow.specs.Activity.{Activity}
 use Rattle.def_flow.specs.Live.{Liveness}
 use Rattle.def_planned.specs.ProgramFacts.{program_facts, IsUnmarked}
@@ -22,7 +23,17 @@ HasNoMarks ps = EachUnit (λ u. IsUnmarked u.body) ps
 abbrev pub kernel_problem : List Procedure → List ℕ → List Bool → List Bool → Problem
 kernel_problem ps name vars outvars = record { units = kernel_of ps; head = unit_number (kernel_of ps) name; vars = vars; outvars = outvars; split = λ n. false }
 
--- the same where marked loops are reversed by schedules, each whose step call is adjointed
+-- the same where the calls of the program at these lines are to be split
+abbrev pub split_problem : List ℕ → List Procedure → List ℕ → List Bool → List Bool → Problem
+split_problem lines ps name vars outvars = record {
+  units = kernel_of ps;
+  head = unit_number (kernel_of ps) name;
+  vars = vars;
+  outvars = outvars;
+  split = split_calls (is_line lines) (kernel_of ps);
+}
+
+-- what is emitted for the kernel by some marks, where marked loops are reversed by schedules, each whose step call is adjointed
 abbrev pub reversed_for : List Procedure → List ℕ → List Bool → List Bool → ProgramMarks → List Procedure
 reversed_for ps name vars outvars m = emitted_program_with true m (kernel_of ps) (unit_number (kernel_of ps) name) vars outvars
 
@@ -33,6 +44,6 @@ facts_by m = record { marks = m; needed = λ point. everything; held = λ point.
 abbrev pub lines_by : List Procedure → ProgramMarks → ReversedLines
 lines_by ps m = reversed_lines (facts_by m) (kernel_of ps)
 
--- the marks that analyses of the kernel give
-abbrev pub marks_by : List Procedure → Activity → Liveness → (ℕ → Vars) → (ℕ → Vars) → ProgramMarks
-marks_by ps a l saved held = (program_facts (kernel_of ps) (λ n. false) a l saved held).marks
+-- the marks that analyses of the kernel give, where the calls of the program at these lines are to be split
+abbrev pub marks_by : List ℕ → List Procedure → Activity → Liveness → (ℕ → Vars) → (ℕ → Vars) → ProgramMarks
+marks_by lines ps a l saved held = (program_facts (kernel_of ps) (split_calls (is_line lines) (kernel_of ps)) a l saved held).marks

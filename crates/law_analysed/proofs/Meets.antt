@@ -30,7 +30,7 @@ use Rattle.def_flow.proofs.OwnPoints as points
 use Rattle.law_flow.proofs.Statements.{entries_are_closed}
 use Rattle.def_flow.proofs.Numbers.{part_is_there}
 use Rattle.law_flow.proofs.Unsplit.{step_unsplit}
-use Rattle.law_flow.specs.Splits.{split_calls}
+use Rattle.def_flow.specs.Splits.{split_calls}
 use Rattle.def_planned.specs.ProgramFacts.{program_facts}
 use Rattle.law_analysed.specs.Meets.{StepsUnsplit, MarkedCallsUnsplit, GivesNames, IsPlainCode, AnalysedMeets}
 use Rattle.law_analysed.proofs.TurnLaws.{TurnLaws}

@@ -23,7 +23,7 @@ use Rattle.def_flow.specs.Parts.{Part, parts, find_part}
 use Rattle.def_flow.specs.Problem.{Problem, TakesPart, statements_of}
 use Rattle.def_flow.specs.Standing.{Standing}
 use Rattle.def_flow.specs.Uses.{is_turn}
-use Rattle.law_flow.specs.Splits.{split_calls}
+use Rattle.def_flow.specs.Splits.{split_calls}
 use Rattle.def_flow.specs.Activity.{Activity}
 use Rattle.def_flow.specs.Live.{Liveness}
 use Rattle.def_flow.specs.Analysed.{Analysed}

@@ -11,7 +11,7 @@ use Rattle.def_names.specs.StatementsIn.{statements_in}
 use Rattle.def_flow.specs.Standing.{Place, outermost, part_of, body_of, Standing, held_in, standing}
 use Rattle.def_flow.specs.Problem.{statements_of}
 use Rattle.def_flow.specs.Uses.{is_turn}
-use Rattle.law_flow.specs.Splits.{marked_call, marked_calls, marked_from, split_calls}
+use Rattle.def_flow.specs.Splits.{marked_call, marked_calls, marked_from, split_calls}
 use Rattle.adj_reach.proofs.Members.{is_among, is_none}
 use Rattle.def_flow.proofs.Points.{next_above, behind_above}
 

@@ -3,4 +3,3 @@ pub mod Laws
 pub mod Computed
 pub mod Writing
 pub mod Examples
-pub mod Splits

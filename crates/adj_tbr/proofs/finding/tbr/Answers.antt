@@ -1,5 +1,5 @@
 -- What the flags tell is what is held and saved.
-use Rattle.std.proofs.Common.{◌≡◌, ℕ, [], map, length, refl, sym, subst, ◌∙◌}
+use Rattle.std.proofs.Common.{◌≡◌, ℕ, [], map, length, sym, subst, ◌∙◌}
 use Rattle.std.specs.Prelude.{◌↔◌, IsTrue}
 use Rattle.std.proofs.lemmas.List.{length-map}
 use Rattle.adj_tree.specs.Code.{plain}
@@ -32,14 +32,14 @@ returns c =
     let vss = variables_of c.args.flow.now in
     let rs = map row_of c.args.flow.now.parts.items in
     let w = fl.width in
-    let f : Found = record { adjointed = c.as_slice.result; varied = c.as_slice-2.result; shadowed = c.as_slice-3.result; kept = c.as_slice-4.result; entry = c.as_slice-5.result } in
+    let f : Found = record { adjointed = c.as_slice.result; varied = c.as_slice-2.result; shadowed = c.as_slice-3.result; kept = c.as_slice-4.result; entry = c.as_slice-5.result; split = c.as_slice-6.result } in
     let t = c.args.sides in
     let held = c.in_ok-held.held in
     let saved = c.in_ok-saved.saved in
     let o : Scope = scope_by vss (flag fl.taking) (units_of c.args.flow.now) in
     let lengths : length (variables_of c.args.flow.now) ≡ length (units_of c.args.flow.now) = length-map c.args.flow.now.parts.items (λ p. p.variables.now) ∙ sym (length-map c.args.flow.now.parts.items (λ p. procedure_of p.unit.now)) in
-    let parts = c.as_slice-6.ensures.value in
-    let flags = c.as_slice-7.ensures.members in
+    let parts = c.as_slice-7.ensures.value in
+    let flags = c.as_slice-8.ensures.members in
     let reached = subst (λ z. (m : ℕ) → IsTrue (flag held m) ↔ ReachedFrom (held_edges f rs fl.taking w) (read_nodes f t (find (map row_of z) fl.numbers) rs fl.taking w) m) parts c.in_ok-held.ensures.held in
     let found = subst (λ z. (m : ℕ) → IsTrue (flag saved m) ↔ ReachedFrom [] z m) (λ i. save_nodes (flags i) f t (find (map row_of (parts i)) fl.numbers) rs fl.taking w) c.in_ok-saved.ensures.saved in
     let x : Answer (problem_of c.args.flow.now c.args.head.now) (variables_of c.args.flow.now) c.args.flow.now.numbers c.args.flow.now.taking c.args.flow.now.width (map row_of c.args.flow.now.parts.items) f c.args.sides c.in_ok-held.held c.in_ok-saved.saved =
@@ -52,7 +52,7 @@ returns c =
       same = is.rows;
       read = c.requires.read;
       written = c.requires.written;
-      unsplit = λ n. refl;
+      splits = λ n i. flag (c.as_slice-6.ensures.members i) n;
       reached = reached;
       found = found;
     } in

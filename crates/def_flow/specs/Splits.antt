@@ -3,6 +3,11 @@ use Rattle.std.specs.Prelude.{ℕ, suc, ◌==◌, List, [], ◌∷◌, Bool, fal
 use Rattle.adj_tree.specs.Code.{unmarked, with_count, count_from, Act, assign, choose, loop, during, call, runtime, Code, stop, step, Procedure}
 use Rattle.def_names.specs.Numbers.{next, behind}
 
+-- whether a line is among these
+abbrev pub is_line : List ℕ → ℕ → Bool
+is_line [] n = false
+is_line (line ∷ lines) n = (n == line) || is_line lines n
+
 -- whether the n-th statement is a call at one of the lines, among a statement at a line, with the number i, and those in it; the step call of a
 -- marked loop is none
 abbrev mutual
