@@ -5,11 +5,11 @@ use Rattle.adj_tree.specs.Code.{Role, Var, helper, work, temp, control, first, s
 use Rattle.def_names.specs.Numbers.{next, behind}
 use Rattle.def_sweep.specs.Declared.{helpers_from}
 use Rattle.def_sweep.specs.Plan.{Plan, Schedules, Step}
-use Rattle.def_sweep.specs.Program.{is_do, is_loop, goes_back_with, any_step, has_slots, reverses_act_by, reverses_by, depth_used_with, helpers_among, all_reversal_helpers, helpers_used_with}
+use Rattle.def_sweep.specs.Program.{is_do, is_loop, goes_back_with, any_step, has_slots, reverses_act_by, reverses_by, depth_used_with, helpers_among, all_reversal_helpers, helpers_used_with, forth_slots, helpers_forth}
 use Rattle.adj_sweep.specs.declared.depths.Depths.{Depths}
 use Rattle.adj_sweep.specs.declared.uses.Used.{Used}
 use Rattle.adj_sweep.specs.Depths.{has_depth, AddsList}
-use Rattle.adj_sweep.specs.Uses.{UsesList, reversal_helpers_of, helpers_of}
+use Rattle.adj_sweep.specs.Uses.{UsesList, reversal_helpers_of, helpers_of, forth_helpers_of}
 
 -- one number or none, and then others
 among_first : (f : ℕ → Bool) (r : Role) (k n : ℕ) (b : Bool) (others : List Var) → helpers_among f r (suc k) n ++ others ≡ helpers_among f r (suc k) (suc n) → (if b then helper r k ∷ helpers_among f r (suc k) n else helpers_among f r (suc k) n) ++ others ≡ (if b then helper r k ∷ helpers_among f r (suc k) (suc n) else helpers_among f r (suc k) (suc n))
@@ -74,3 +74,18 @@ helpers_known r p i c u old new h adds ed el er es =
     ++ (helpers_among (loops z) count 1 (h.depth z) ++ (helpers_among (dos z) first 1 (h.depth z)
     ++ (helpers_among (dos z) stride 1 (h.depth z) ++ (helpers_among (loops z) turn 1 (h.depth z)
     ++ (reversal_known r p i c u.depth new.reversed.items new.slots.items reversed others h.depth z ++ (helpers_from work 1 (h.works z) ++ helpers_from temp 1 (h.temps z)))))))
+
+-- the helpers of a forward unit, from what its body uses
+slots_known : (r : Schedules) (p : Plan) (i : ℕ) (c : Code) (n : ℕ) (others : List Bool) → has_depth others ≡ (λ k. reverses_by r has_slots k p i 0 c) → n ≡ depth_used_with r p i 0 c → helpers_among (has_depth others) slots 1 n ≡ forth_slots r p i c
+slots_known (Some reads) p i c n others s h = λ z. helpers_among (s z) slots 1 (h z)
+slots_known None p i c n others s h =
+    let t : has_depth others ≡ (λ k. false) = s ∙ (λ z k. reverses_none has_slots k p i 0 c z) in ap (λ f. helpers_among f slots 1 n) t ∙ among_none slots 1 n
+
+pub forth_known : (r : Schedules) (p : Plan) (i : ℕ) (c : Code) (u : Used) (old new : Depths) → UsesList r p 0 i c u → AddsList r p 0 i c old new → old.dos.items ≡ [] → old.loops.items ≡ [] → old.slots.items ≡ [] → forth_helpers_of u new ≡ helpers_forth r p i c
+forth_known r p i c u old new h adds ed el es =
+    let dos : has_depth new.dos.items ≡ (λ k. goes_back_with r is_do k p i 0 c) = λ z k. (adds.dos k ∙ ap (λ xs. has_depth xs k || goes_back_with r is_do k p i 0 c) ed) z in
+    let loops : has_depth new.loops.items ≡ (λ k. goes_back_with r is_loop k p i 0 c) = λ z k. (adds.loops k ∙ ap (λ xs. has_depth xs k || goes_back_with r is_loop k p i 0 c) el) z in
+    let others : has_depth new.slots.items ≡ (λ k. reverses_by r has_slots k p i 0 c) = λ z k. (adds.slots k ∙ ap (λ xs. has_depth xs k || reverses_by r has_slots k p i 0 c) es) z in
+    λ z.
+    helpers_among (loops z) count 1 (h.depth z) ++ (helpers_among (dos z) first 1 (h.depth z)
+    ++ (helpers_among (dos z) stride 1 (h.depth z) ++ slots_known r p i c u.depth new.slots.items others h.depth z))

@@ -23,6 +23,7 @@ use Rattle.adj_sweep_assignment.proofs.Plain.{IsPlain, terms_kept}
 use Rattle.adj_sweep.proofs.Turned.{joined}
 use Rattle.adj_sweep.proofs.Groups.{save_chosen, snapshot_chosen, shadows_paired, pushes_plain, pops_plain}
 use Rattle.adj_sweep.proofs.Acts.{written, if_true}
+use Rattle.adj_sweep.proofs.SplitRows.{split_forward, split_backward}
 
 module _ (sc : Schedules) (r : Var → Var) (plainly : IsPlain r) (p : Plan) (d line : ℕ) (name : List ℕ) (args : Exprs) (old new : Sweeps) (k : known.Callee) (read : Vars) (h : Knows k (p.callees name) read) where
   abbrev g : Callee
@@ -79,3 +80,14 @@ module _ (sc : Schedules) (r : Var → Var) (plainly : IsPlain r) (p : Plan) (d 
       ∙ append_assoc (o +++ rename r save) (rename r snap) (rename r kept) ∙ append_assoc o (rename r save) (rename r snap +++ rename r kept)
       ∙ ap (λ z. o +++ (rename r save +++ z)) (sym (rename-append r snap kept)) ∙ ap (λ z. o +++ z) (sym (rename-append r save (snap +++ kept))))
       (joined r back restored (code_of new.backward) t (code_of old.backward) (h5 ∙ ap (λ z. z +++ t) (adjoint_named (p.marks.adjointed i))) tail)
+
+  -- those of a split call: the forward and the backward unit are called
+  pub split_written : is_emitted p.marks old.number ≡ true → p.marks.split old.number ≡ true → new.number ≡ suc old.number → in_order (code_of new.forward) ≡ in_order (code_of old.forward) +++ one line (call k.forth (terms_of args)) → code_of new.backward ≡ rename r (one line (call k.back (all_with_shadows actuals))) +++ code_of old.backward → SweepsAct sc r p d line (call name (terms_of args)) old new
+  split_written e u n f b =
+      let i = old.number in
+      let x = one line (call g.forth (terms_of args)) in
+      let y = one line (call g.back (with_shadows g.shadowed g.dummies given)) in
+      written sc r p d line (call name (terms_of args)) old new x y
+      (split_forward sc p i d line name (terms_of args) u ∙ if_true _ _ e) (split_backward sc p i d line name (terms_of args) u ∙ if_true _ _ e) n
+      (f ∙ (λ j. in_order (code_of old.forward) +++ one line (call (h.forth j) (sym (terms_kept r plainly args) j))))
+      (b ∙ (λ j. rename r (one line (call (h.back j) (shadows j))) +++ code_of old.backward))

@@ -1,15 +1,15 @@
 -- Where backward sweeps are empty.
-use Rattle.std.proofs.Common.{◌≡◌, ℕ, Bool, true, false, not, List, [], ◌∷◌, map, pos, refl, ap, ◌∙◌}
+use Rattle.std.proofs.Common.{◌≡◌, ℕ, Bool, true, false, not, List, [], ◌∷◌, map, pos, refl, sym, ap, ◌∙◌}
 use Rattle.std.specs.Prelude.{◌&&◌, ◌||◌, if◌then◌else◌}
-use Rattle.adj_tree.specs.Code.{plain, shadow, helper, work, Term, lit, Terms, none, Act, assign, Code, stop, step}
+use Rattle.adj_tree.specs.Code.{plain, shadow, helper, work, Term, lit, Terms, none, Act, assign, call, Code, stop, step}
 use Rattle.def_meaning.specs.Append.{◌+++◌, one}
 use Rattle.def_names.specs.Numbers.{Vars}
 use Rattle.def_sweep.specs.Marked.{code_if, place}
 use Rattle.def_sweep.specs.Occurrences.{is_active_where}
 use Rattle.def_sweep.specs.AdjointOf.{temps_where, back_where, adjoint_where}
-use Rattle.def_sweep.specs.Plan.{Callee, Plan, group, Schedules}
-use Rattle.def_sweep.specs.Rows.{is_empty, pop, pops, told_backward}
-use Rattle.def_sweep.specs.Emission.{backward_act_with, backward_with}
+use Rattle.def_sweep.specs.Plan.{Callee, Plan, group, Schedules, names_of, save_group, snapshot_group}
+use Rattle.def_sweep.specs.Rows.{is_empty, pop, pops, told_backward, with_shadows, adjoint_call}
+use Rattle.def_sweep.specs.Emission.{backward_act, backward_act_with, backward_with}
 use Rattle.adj_sweep.specs.Callees.{seen}
 use Rattle.adj_sweep.specs.Uses.{saves_some}
 use Rattle.adj_sweep.proofs.Flags.{and_false}
@@ -43,6 +43,23 @@ pub adjoint_called : (kept t : Bool) (x y : Code) (line : ℕ) (a : Act) → t �
 adjoint_called true true x y line a h = empty_append (x +++ one line a) y ∙ ap (λ z. z && is_empty y) (empty_append x (one line a) ∙ and_false (is_empty x))
 adjoint_called false true x y line a h = empty_append (x +++ one line a) y ∙ ap (λ z. z && is_empty y) (empty_append x (one line a) ∙ and_false (is_empty x))
 adjoint_called kept false x y line a h = absurd (let f : false ≡ true = h in cc)
+
+-- whether it is split or not
+pub adjointed_there : (p : Plan) (i d line : ℕ) (name : List ℕ) (args : Terms) → p.marks.adjointed i ≡ true → false ≡ is_empty (backward_act p i d line (call name args))
+adjointed_there p i d line name args e = go (p.marks.kept i) (p.marks.adjointed i) (p.marks.split i) e
+  where
+    g : Callee
+    g = p.callees name
+
+    back : Code
+    back = one line (call g.back (with_shadows g.shadowed g.dummies (names_of args)))
+
+    go : (kept t split : Bool) → t ≡ true →
+        false ≡ is_empty (code_if (kept || t) (if split then back else code_if t (pops p line (snapshot_group g (names_of args)) +++ one line (adjoint_call g (names_of args))) +++ pops p line (save_group p.marks i g (names_of args))))
+    go true t true e = refl
+    go false true true e = refl
+    go false false true e = absurd (let f : false ≡ true = e in cc)
+    go kept t false e = sym (adjoint_called kept t (pops p line (snapshot_group g (names_of args))) (pops p line (save_group p.marks i g (names_of args))) line (adjoint_call g (names_of args)) e)
 
 -- one that isn't, kept or not
 pub nothing_called : (kept t : Bool) (x y : Code) → kept ≡ false → t ≡ false → is_empty (code_if (kept || t) (code_if t x +++ y)) ≡ true

@@ -14,5 +14,6 @@ pub mod Rows
 pub mod Groups
 pub mod Acts
 pub mod Reversals
+pub mod SplitRows
 pub mod CallActs
 pub mod Cleared

@@ -23,6 +23,8 @@ seen g read d = record { written = g.written (plain d); read = read (plain d); m
 -- k is what the sweeps of a call know of the unit, which reads these
 pub record Knows (k : Callee) (g : sweeps.Callee) (read : Vars) : Type 0 where
   pub adjoint : k.adjoint ≡ g.adjoint
+  pub forth : k.forth ≡ g.forth
+  pub back : k.back ≡ g.back
   pub dummies : k.dummies.items ≡ map (seen g read) g.dummies
 
 -- the same of all units

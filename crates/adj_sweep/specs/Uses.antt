@@ -84,3 +84,9 @@ helpers_of u depths =
     ++ (helpers_among (has_depth depths.loops.items) count 1 u.depth ++ (helpers_among (has_depth depths.dos.items) first 1 u.depth
     ++ (helpers_among (has_depth depths.dos.items) stride 1 u.depth ++ (helpers_among (has_depth depths.loops.items) turn 1 u.depth
     ++ (reversal_helpers_of u.depth depths.reversed.items depths.slots.items ++ (helpers_from work 1 u.works ++ helpers_from temp 1 u.temps))))))
+
+-- those that a forward unit declares
+abbrev pub forth_helpers_of : Used → Depths → List Var
+forth_helpers_of u depths =
+    helpers_among (has_depth depths.loops.items) count 1 u.depth ++ (helpers_among (has_depth depths.dos.items) first 1 u.depth
+    ++ (helpers_among (has_depth depths.dos.items) stride 1 u.depth ++ helpers_among (has_depth depths.slots.items) slots 1 u.depth))

@@ -129,8 +129,8 @@ impl<'a> Plan<'a> {
         }
     }
 
-    // The call that pushes a variable, an array whole.
-    fn push_of(&self, name: Name) -> RunCall
+    /// The call that pushes a variable, an array whole.
+    pub(crate) fn push_of(&self, name: Name) -> RunCall
         ensures call { runtime_of result ≡ (if has_name name self.now.arrays.now then push_array (plain name) else push_word (plain name) none) }
     {
         if self.arrays.has(name.bytes()) {
@@ -140,8 +140,8 @@ impl<'a> Plan<'a> {
         RunCall::PushWord(Place { name, subs })
     }
 
-    // The call that pops a variable, an array whole.
-    fn pop_of(&self, name: Name) -> RunCall
+    /// The call that pops a variable, an array whole.
+    pub(crate) fn pop_of(&self, name: Name) -> RunCall
         ensures call { runtime_of result ≡ (if has_name name self.now.arrays.now then pop_array (plain name) else pop_word (plain name) none) }
     {
         if self.arrays.has(name.bytes()) {

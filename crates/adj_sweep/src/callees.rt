@@ -16,10 +16,12 @@ pub struct Dummy {
     pub shadowed: bool,
 }
 
-/// The name of a unit's adjoint, and the unit's dummies.
+/// The names of a unit's adjoint and of its forward and its backward unit, and the unit's dummies.
 #[derive(Drop)]
 pub struct Callee {
     pub adjoint: Name,
+    pub forth: Name,
+    pub back: Name,
     pub dummies: Vec<Dummy>,
 }
 

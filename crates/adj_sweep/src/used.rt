@@ -1,14 +1,14 @@
-//! The helpers that the adjoint of a unit uses (docs/EMITTED.md, "The units"). Lists are gone through by loops.
+//! The helpers that the adjoint of a unit uses, and those of a forward unit (docs/EMITTED.md, "The units"). Lists are gone through by loops.
 
 ghost use Rattle.std.specs.Prelude.{◌≡◌, ◌++◌, ℕ, List, map, IfOk, OnOk};
 ghost use Rattle.adj_tree.specs.View.{act_of, code_of, mark_of};
 ghost use Rattle.def_names.specs.Numbers.{Vars};
 ghost use Rattle.def_sweep.specs.Plan.{Callee};
-ghost use Rattle.def_sweep.specs.Program.{helpers_used_with};
+ghost use Rattle.def_sweep.specs.Program.{helpers_used_with, helpers_forth};
 ghost use Rattle.adj_naming.specs.Roles.{variable_of};
 ghost use Rattle.adj_sweep.specs.Callees.{KnowsAll};
 ghost use Rattle.adj_sweep.specs.Depths.{AddsAct, AddsList, AddsLoop};
-ghost use Rattle.adj_sweep.specs.Uses.{plan_by, schedules_by, UsesAct, UsesList, UsesLoop, reversal_helpers_of, helpers_of};
+ghost use Rattle.adj_sweep.specs.Uses.{plan_by, schedules_by, UsesAct, UsesList, UsesLoop, reversal_helpers_of, helpers_of, forth_helpers_of};
 
 use crate::depths::{Depths, push_among};
 use crate::measure::plus;
@@ -181,5 +181,32 @@ pub fn helpers_used(
     let mut depths = Depths::new(alloc);
     let used = known.list(body, number, 0, &mut depths)?;
     let made = helpers(alloc, &used, &depths)?;
+    Ok(made)
+}
+
+// Those of what is used by a forward sweep, in this order.
+fn forth_helpers(alloc: Global, used: &Used, depths: &Depths) -> Result<Vec<Helper>, Memory>
+    ensures helpers { IfOk result (λ v. map variable_of v.items ≡ forth_helpers_of used.now depths.now) }
+{
+    let mut made = Vec::new(alloc);
+    push_among(&mut made, Role::Count, depths.loops.as_slice(), used.depth)?;
+    push_among(&mut made, Role::First, depths.dos.as_slice(), used.depth)?;
+    push_among(&mut made, Role::Stride, depths.dos.as_slice(), used.depth)?;
+    push_among(&mut made, Role::Slots, depths.slots.as_slice(), used.depth)?;
+    Ok(made)
+}
+
+/// The helpers that the forward unit of split calls uses, in the order of their declarations.
+pub fn helpers_forth(
+    alloc: Global,
+    known: &Known,
+    number: usize,
+    body: &Stmts,
+) -> Result<Vec<Helper>, Memory>
+    ensures helpers { IfOk result (λ v. (arrays : Vars) (callees : List ℕ → Callee) (reads : List ℕ → Vars) → KnowsAll known.now.callees.now callees reads → map variable_of v.items ≡ helpers_forth (schedules_by known.now reads) (plan_by known.now arrays callees) number (code_of body.now)) }
+{
+    let mut depths = Depths::new(alloc);
+    let used = known.list(body, number, 0, &mut depths)?;
+    let made = forth_helpers(alloc, &used, &depths)?;
     Ok(made)
 }

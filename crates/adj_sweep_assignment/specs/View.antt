@@ -1,7 +1,9 @@
 -- The marks that a marking stands for.
-use Rattle.std.specs.Prelude.{ℕ, ◌+◌, ◌*◌, List, Bool, false, Option, Some, None}
+use Rattle.std.specs.Prelude.{ℕ, ◌+◌, ◌*◌, List, Bool, false, ◌&&◌, Option, Some, None}
 use Rattle.adj_tree.specs.Code.{Var, plain}
 use Rattle.def_sweep.specs.Marks.{Marks, full}
+use Rattle.def_sweep.specs.SplitMarks.{split_marks}
+use Rattle.def_sweep.specs.Callees.{nothing}
 use Rattle.adj_reach.specs.Edges.{flag}
 use Rattle.adj_symbols_writes.specs.Table.{value_of}
 use Rattle.def_names.specs.Numbers.{Vars}
@@ -20,12 +22,12 @@ abbrev pub flag_of : List Bool → ℕ → ℕ → Option ℕ → Bool
 flag_of flags w n None = false
 flag_of flags w n (Some j) = flag flags (n * w + j)
 
--- the marks that analyses found, as a unit sees them: no call is split
+-- the marks that analyses found, as a unit sees them: an adjointed call that is flagged is split
 abbrev pub found_marks : Found → Marks
 found_marks f = record {
   kept = flag f.marks.now.kept.kept;
   adjointed = λ i. flag f.marks.now.activity.adjointed (2 * i);
-  split = λ i. false;
+  split = λ i. flag f.split.now i && flag f.marks.now.activity.adjointed (2 * i);
   saved = λ i v. flag_of f.marks.now.saved.saved f.width i (place_of f.places.now v);
   varied = λ p v. flag_of f.marks.now.activity.varied f.width p (place_of f.places.now v);
   useful = λ p v. flag_of f.marks.now.activity.useful f.width p (place_of f.places.now v);
@@ -44,4 +46,6 @@ carried_marks on = record full { shadowed = on }
 abbrev pub marks_of : marking.Marking → Marks
 marks_of from.Full = full
 marks_of (from.Found f) = found_marks f
+marks_of (from.Pair f) = split_marks (found_marks f)
 marks_of (from.Carried c) = carried_marks (carried_by c)
+marks_of from.Bare = carried_marks nothing

@@ -1,6 +1,6 @@
 //! Where the marks come from, and what they say (docs/EMITTED.md, "Sweeps").
 
-ghost use Rattle.std.specs.Prelude.{◌≡◌, ◌*◌, ◌||◌};
+ghost use Rattle.std.specs.Prelude.{◌≡◌, ◌*◌, ◌||◌, ◌&&◌};
 ghost use Rattle.adj_tree.specs.Code.{plain};
 ghost use Rattle.def_sweep.specs.Marks.{active_at};
 ghost use Rattle.def_names.specs.Numbering.{point_before};
@@ -13,10 +13,11 @@ use adj_tree::{Marks, Name};
 
 /// The marks that analyses found, as one unit sees them: its number, the places of its variables, and how many variables a unit has
 /// at most. Flags of a variable stand where the point, the statement or the unit has its number times the width, and the variable
-/// its place; those of statements stand at their numbers, and for adjoints at twice these.
+/// its place; those of statements stand at their numbers, and for adjoints at twice these. Calls that are flagged are to be split.
 #[derive(Clone, Copy)]
 pub struct Found<'a> {
     pub marks: &'a Marks,
+    pub split: &'a [bool],
     pub unit: usize,
     pub places: &'a Numbers<'a>,
     pub width: usize,
@@ -74,6 +75,13 @@ impl Found<'_> {
         ensures { result ≡ flag self.now.marks.now.activity.adjointed (2 * number) }
     {
         flag_at_twice(self.marks.activity.adjointed.as_slice(), number)
+    }
+
+    // Whether the statement is a split call.
+    fn split(&self, number: usize) -> bool
+        ensures split { result ≡ (flag self.now.split.now number && flag self.now.marks.now.activity.adjointed (2 * number)) }
+    {
+        flag_at(self.split, number) && self.adjointed(number)
     }
 
     // Whether the value of the variable is saved where the statement overwrites it.
@@ -139,8 +147,12 @@ pub enum Marking<'a> {
     Full,
     /// What analyses found is marked.
     Found(Found<'a>),
+    /// What analyses found is marked, but each statement is kept, and each variable saved: so the units of split calls are written.
+    Pair(Found<'a>),
     /// Everything is marked, but only variables that carry a tangent have a shadow.
     Carried(Carried<'a>),
+    /// Everything is marked, but no variable has a shadow.
+    Bare,
 }
 
 impl Marking<'_> {
@@ -149,9 +161,8 @@ impl Marking<'_> {
         ensures kept { result ≡ (marks_of self.now).kept number }
     {
         match self {
-            Marking::Full => true,
+            Marking::Full | Marking::Pair(_) | Marking::Carried(_) | Marking::Bare => true,
             Marking::Found(found) => found.kept(number),
-            Marking::Carried(_) => true,
         }
     }
 
@@ -160,9 +171,18 @@ impl Marking<'_> {
         ensures adjointed { result ≡ (marks_of self.now).adjointed number }
     {
         match self {
-            Marking::Full => true,
-            Marking::Found(found) => found.adjointed(number),
-            Marking::Carried(_) => true,
+            Marking::Full | Marking::Carried(_) | Marking::Bare => true,
+            Marking::Found(found) | Marking::Pair(found) => found.adjointed(number),
+        }
+    }
+
+    /// Whether the statement is a split call.
+    pub fn split(&self, number: usize) -> bool
+        ensures split { result ≡ (marks_of self.now).split number }
+    {
+        match self {
+            Marking::Full | Marking::Carried(_) | Marking::Bare => false,
+            Marking::Found(found) | Marking::Pair(found) => found.split(number),
         }
     }
 
@@ -178,9 +198,8 @@ impl Marking<'_> {
         ensures saved { result ≡ (marks_of self.now).saved number (plain x.now) }
     {
         match self {
-            Marking::Full => true,
+            Marking::Full | Marking::Pair(_) | Marking::Carried(_) | Marking::Bare => true,
             Marking::Found(found) => found.saved(number, x),
-            Marking::Carried(_) => true,
         }
     }
 
@@ -190,8 +209,9 @@ impl Marking<'_> {
     {
         match self {
             Marking::Full => true,
-            Marking::Found(found) => found.shadowed(x),
+            Marking::Found(found) | Marking::Pair(found) => found.shadowed(x),
             Marking::Carried(carried) => carried.has(x),
+            Marking::Bare => false,
         }
     }
 
@@ -200,9 +220,8 @@ impl Marking<'_> {
         ensures varied { result ≡ (marks_of self.now).varied (point_before number) (plain x.now) }
     {
         match self {
-            Marking::Full => true,
-            Marking::Found(found) => found.varied(number, x),
-            Marking::Carried(_) => true,
+            Marking::Full | Marking::Carried(_) | Marking::Bare => true,
+            Marking::Found(found) | Marking::Pair(found) => found.varied(number, x),
         }
     }
 

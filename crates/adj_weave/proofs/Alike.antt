@@ -10,9 +10,10 @@ use Rattle.def_sweep.specs.Declared.{helpers_from}
 use Rattle.def_sweep.specs.AdjointOf.{adjoint_where, works_in_where, temps_in_where}
 use Rattle.def_sweep.specs.Plan.{Callee, Plan, names_of, actuals_named, found_or, group, snapshot_group, step_snapshot, Schedules, Step, step_in, reversed_by}
 use Rattle.def_sweep.specs.Rows.{is_empty, push, pop, pushes, pops, literal, told_forward, told_backward, loop_forward, loop_backward, while_forward, while_backward, with_shadows, adjoint_call}
+use Rattle.def_sweep.specs.SplitRows.{forth_body, back_body}
 use Rattle.def_sweep.specs.Emission.{forward_act_with, forward_with, backward_act_with, backward_with, cleared, adjoint_body_with}
 use Rattle.def_sweep.specs.ReversalCode.{reversed_forward, reversed_backward, row_forward, row_backward}
-use Rattle.def_sweep.specs.Program.{works_act, works_used, temps_act, temps_used, depth_act_with, depth_used_with, tells_act_with, tells_some_with, goes_back_act_with, goes_back_with, any_step, has_slots, reverses_act_by, reverses_by, is_do, is_loop, helpers_among, loop_helpers_with, reversal_helpers, all_reversal_helpers, helpers_used_with}
+use Rattle.def_sweep.specs.Program.{works_act, works_used, temps_act, temps_used, depth_act_with, depth_used_with, tells_act_with, tells_some_with, goes_back_act_with, goes_back_with, any_step, has_slots, reverses_act_by, reverses_by, is_do, is_loop, helpers_among, loop_helpers_with, reversal_helpers, all_reversal_helpers, helpers_used_with, forth_slots, helpers_forth}
 use Rattle.adj_weave.specs.Alike.{AreSameAt, AreSameIn, AreSameOver}
 
 module _ (m n : Marks) (shadows : m.shadowed ≡ n.shadowed) where
@@ -281,3 +282,20 @@ module _ (m n : Marks) (shadows : m.shadowed ≡ n.shadowed) where
 
     pub alike_body : (i line : ℕ) (c : Code) (at_turn at_end : List (List ℕ)) → AreSameOver m n i c → adjoint_body_with sc p i line c at_turn at_end ≡ adjoint_body_with sc q i line c at_turn at_end
     alike_body i line c at_turn at_end h = λ j. forward_same i 0 c h j +++ (cleared_same line at_turn j +++ (backward_same i 0 c h j +++ cleared_same line at_end j))
+
+    -- of forward and backward units
+    slots_same : (i : ℕ) (c : Code) → AreSameOver m n i c → forth_slots sc p i c ≡ forth_slots sc q i c
+    slots_same i c h = go sc refl
+      where
+        go : (z : Schedules) → sc ≡ z → forth_slots z p i c ≡ forth_slots z q i c
+        go None e = refl
+        go (Some reads) e = subst (λ z. reversal_helpers z has_slots slots p i c ≡ reversal_helpers z has_slots slots q i c) e (reversals_same has_slots slots i c h)
+
+    pub forth_helpers_same : (i : ℕ) (c : Code) → AreSameOver m n i c → helpers_forth sc p i c ≡ helpers_forth sc q i c
+    forth_helpers_same i c h = λ j. loops_same is_loop count i c h j ++ (loops_same is_do first i c h j ++ (loops_same is_do stride i c h j ++ slots_same i c h j))
+
+    pub alike_forth : (i line : ℕ) (left : List (List ℕ)) (c : Code) → AreSameOver m n i c → forth_body sc p i line left c ≡ forth_body sc q i line left c
+    alike_forth i line left c h = λ j. forward_same i 0 c h j +++ pushes_same line left j
+
+    pub alike_back : (i line : ℕ) (left : List (List ℕ)) (c : Code) → AreSameOver m n i c → back_body sc p i line left c ≡ back_body sc q i line left c
+    alike_back i line left c h = λ j. pops_same line left j +++ backward_same i 0 c h j

@@ -1,16 +1,15 @@
 -- Calls of a set, by the numbers of their statements and by whether they are all that the turns of a marked loop do.
 use Rattle.std.proofs.Common.{◌≡◌, ℕ, suc, Bool, true, false, List, [], ◌∷◌, refl, sym, ap, ◌∙◌, if◌then◌else◌}
-use Rattle.std.specs.Prelude.{◌||◌, ◌&&◌, Option, Some, None}
+use Rattle.std.specs.Prelude.{◌||◌, ◌&&◌, not, Option, Some, None}
 use Rattle.adj_tree.specs.Code.{name_eq, Mark, unmarked, with_count, count_from, Act, assign, choose, loop, during, call, runtime, Code, stop, step, Procedure}
 use Rattle.def_names.specs.Numbers.{Vars, next, behind}
 use Rattle.def_sweep.specs.Plan.{names_of, found_or, Schedules, Step, step_in, reversed_by}
-use Rattle.def_sweep.specs.Marking.{ProgramMarks, SplitsNothing}
-use Rattle.def_sweep.specs.Program.{turns_act, turns_in, turns_some, has_adjoint, is_kept_with}
-use Rattle.law_sweep.proofs.Unsplit.{kept_by_adjoints, unsplit_kept}
+use Rattle.def_sweep.specs.Marking.{ProgramMarks}
+use Rattle.def_sweep.specs.Program.{calls_some, turns_act, turns_in, turns_some, schedules_in, has_adjoint, has_pair, kept_calls, is_kept_with}
 use Rattle.adj_weave.specs.Marked.{reads_in}
 use Rattle.adj_weave_units.specs.Calls.{only_called, turned}
 use Rattle.adj_weave_units.proofs.Calling.{has_act, has_in, has_some, some_same}
-use Rattle.adj_weave.specs.Orders.{is_plain_call}
+use Rattle.adj_weave.specs.Orders.{is_step_call}
 
 -- ---- truth values
 
@@ -120,15 +119,39 @@ module _ (f g : ℕ → Bool → Bool) (n : List ℕ) where
       ∙ ap (λ z. z || (has_some among f n (behind i u.body) us || has_some among g n (behind i u.body) us)) (spread_left (among u.name) (has_in f n i u.body) (has_in g n i u.body))
       ∙ crossed (among u.name && has_in f n i u.body) (among u.name && has_in g n i u.body) (has_some among f n (behind i u.body) us) (has_some among g n (behind i u.body) us)
 
--- ---- the calls that adjoints make of units as they are
+-- ---- calls by their numbers, and the step calls of loops that are reversed by schedules
 
-by_adjoints : (b : Bool) (m : ProgramMarks) (ps : List Procedure) (head : Procedure) (n : List ℕ) → has_some (has_adjoint m ps head) (is_plain_call m b) n 0 ps ≡ kept_by_adjoints b m ps head n
-by_adjoints false m ps head n =
-    (λ j. has_some (has_adjoint m ps head) (λ i turns. or_false (m.kept i) j) n 0 ps) ∙ some_same m.kept n (has_adjoint m ps head) 0 ps
-by_adjoints true m ps head n =
-    some_either (λ i turns. m.kept i) (λ i turns. turns && m.adjointed i) n (has_adjoint m ps head) 0 ps
-    ∙ (λ j. some_same m.kept n (has_adjoint m ps head) 0 ps j || some_turns (reads_in ps) m.adjointed n (has_adjoint m ps head) 0 ps j)
+-- these calls count
+abbrev pub with_steps : Bool → ProgramMarks → (ℕ → Bool) → ℕ → Bool → Bool
+with_steps b m f i turns = f i || is_step_call m b i turns
 
--- where no call is split, these are all the calls of units as they are
-pub plain_calls : (b : Bool) (m : ProgramMarks) → SplitsNothing m → (ps : List Procedure) (head : Procedure) (n : List ℕ) → has_some (has_adjoint m ps head) (is_plain_call m b) n 0 ps ≡ is_kept_with b m ps head n
-plain_calls b m none ps head n = by_adjoints b m ps head n ∙ sym (unsplit_kept m none ps head b n)
+numbers_alone : (m : ProgramMarks) (f : ℕ → Bool) (among : List ℕ → Bool) (ps : List Procedure) (n : List ℕ) → has_some among (with_steps false m f) n 0 ps ≡ calls_some among f n 0 ps
+numbers_alone m f among ps n = (λ j. has_some among (λ i turns. or_false (f i) j) n 0 ps) ∙ some_same f n among 0 ps
+
+numbers_and_steps : (m : ProgramMarks) (f : ℕ → Bool) (among : List ℕ → Bool) (ps : List Procedure) (n : List ℕ) → has_some among (with_steps true m f) n 0 ps ≡ (calls_some among f n 0 ps || turns_some (schedules_in true ps) among m.adjointed n 0 ps)
+numbers_and_steps m f among ps n =
+    some_either (λ i turns. f i) (λ i turns. turns && m.adjointed i) n among 0 ps
+    ∙ (λ j. some_same f n among 0 ps j || some_turns (reads_in ps) m.adjointed n among 0 ps j)
+
+-- of units of either of two sets
+turns_either : (r : Schedules) (among more : List ℕ → Bool) (adjointed : ℕ → Bool) (n : List ℕ) (i : ℕ) (us : List Procedure) → turns_some r (λ x. among x || more x) adjointed n i us ≡ (turns_some r among adjointed n i us || turns_some r more adjointed n i us)
+turns_either r among more adjointed n i [] = refl
+turns_either r among more adjointed n i (u ∷ us) =
+    let here = turns_in r adjointed n i u.body in
+    let first = turns_some r among adjointed n (behind i u.body) us in
+    let second = turns_some r more adjointed n (behind i u.body) us in
+    (λ j. ((among u.name || more u.name) && here) || turns_either r among more adjointed n (behind i u.body) us j)
+    ∙ ap (λ z. z || (first || second)) (spread (among u.name) (more u.name) here)
+    ∙ crossed (among u.name && here) (more u.name && here) first second
+
+-- ---- the calls of units as they are: those of adjoints, and those of forward and backward units
+pub plain_calls : (b : Bool) (m : ProgramMarks) (ps : List Procedure) (head : Procedure) (n : List ℕ) →
+    (has_some (has_adjoint m ps head) (with_steps b m (λ i. m.kept i && not (m.split i))) n 0 ps || has_some (has_pair m ps head) (with_steps b m (λ i. not (m.split i))) n 0 ps) ≡ is_kept_with b m ps head n
+plain_calls false m ps head n = λ j. numbers_alone m (λ i. m.kept i && not (m.split i)) (has_adjoint m ps head) ps n j || numbers_alone m (λ i. not (m.split i)) (has_pair m ps head) ps n j
+plain_calls true m ps head n =
+    let adjoints = has_adjoint m ps head in
+    let pairs = has_pair m ps head in
+    let sc = schedules_in true ps in
+    (λ j. numbers_and_steps m (λ i. m.kept i && not (m.split i)) adjoints ps n j || numbers_and_steps m (λ i. not (m.split i)) pairs ps n j)
+    ∙ crossed (calls_some adjoints (λ i. m.kept i && not (m.split i)) n 0 ps) (turns_some sc adjoints m.adjointed n 0 ps) (calls_some pairs (λ i. not (m.split i)) n 0 ps) (turns_some sc pairs m.adjointed n 0 ps)
+    ∙ ap (λ z. kept_calls m ps head n || z) (sym (turns_either sc adjoints pairs m.adjointed n 0 ps))

@@ -1,6 +1,6 @@
 -- What flags tell of a unit is what they tell of the program there.
-use Rattle.std.proofs.Common.{◌≡◌, ℕ, suc, ◌+◌, ◌*◌, Bool, true, false, List, [], ◌∷◌, ◌++◌, map, refl, sym, ap, ◌∙◌, subst}
-use Rattle.std.specs.Prelude.{Contains, Option, Some, slice_index_or}
+use Rattle.std.proofs.Common.{◌≡◌, ℕ, suc, ◌*◌, Bool, true, List, [], ◌∷◌, ◌++◌, map, refl, sym, ap, ◌∙◌, subst}
+use Rattle.std.specs.Prelude.{◌&&◌, Contains, Option, Some, slice_index_or}
 use Rattle.std.proofs.lemmas.List.Elements.{Contains-append_left, Contains-append_right}
 use Rattle.adj_tree.specs.Code.{Var, plain, Act, assign, choose, loop, during, call, runtime, Code, stop, step, Procedure}
 use Rattle.adj_tree.specs.declared.marks.Marks as flags
@@ -11,8 +11,8 @@ use Rattle.def_names.specs.Numbering.{point_before}
 use Rattle.def_meaning.specs.Apart.{AreApart}
 use Rattle.def_sweep.specs.Declared.{unit_name, unit_at}
 use Rattle.def_sweep.specs.Marking.{marks_in, first_statement, place_from}
-use Rattle.def_sweep.specs.Program.{has_adjoint}
-use Rattle.def_flow.specs.Parts.{Part, part, parts}
+use Rattle.def_sweep.specs.Program.{takes_part}
+use Rattle.def_flow.specs.Parts.{Part}
 use Rattle.def_flow.specs.Standing.{Place, outermost, part_of, body_of, Standing, held_in, standing}
 use Rattle.def_flow.specs.Problem.{statements_of}
 use Rattle.def_flow.specs.Rules.{Covers}
@@ -35,7 +35,7 @@ use Rattle.adj_weave_units.specs.Flowing.{scope_in, IsFlowOf}
 use Rattle.adj_weave.specs.Marked.{marks_told, marks_at}
 use Rattle.adj_weave_units.proofs.Places.{At}
 use Rattle.adj_weave_units.proofs.Flagged.{flags_same, unit_variables}
-use Rattle.adj_weave.proofs.Taking.{problem_for, IsTaking, adjointed_takes}
+use Rattle.adj_weave.proofs.Taking.{problem_for, IsTaking, part_takes}
 
 -- ---- the statements of a list
 
@@ -100,32 +100,32 @@ module _ (f : Flow) (t : flags.Marks) (h : ℕ) (over : IsFlowOf (units_of f) h 
         subst (λ (v : Procedure). AreSameOver m n (first_statement (units_of f) u.name) v.body) it.unit (subst (λ i. AreSameOver m n i it.part.unit.body) it.first own);
   }
 
--- so of each unit with an adjoint the marks at its place are those of the program
-pub unit_alike : (ps : List Procedure) (h : ℕ) (f : Flow) (t : flags.Marks) → IsFlowOf ps h f → AreApart (map unit_name ps) → (head : Procedure) → unit_at h ps ≡ head ∷ [] → (k : ℕ) (u : Procedure) → place_from 0 ps u.name ≡ k → find_unit ps u.name ≡ Some u → has_adjoint (marks_told f t) ps head u.name ≡ true →
+-- so of each unit that takes part the marks at its place are those of the program
+pub unit_alike : (ps : List Procedure) (h : ℕ) (f : Flow) (t : flags.Marks) → IsFlowOf ps h f → AreApart (map unit_name ps) → (head : Procedure) → unit_at h ps ≡ head ∷ [] → (k : ℕ) (u : Procedure) → place_from 0 ps u.name ≡ k → find_unit ps u.name ≡ Some u → takes_part (marks_told f t) ps head u.name ≡ true →
     AreAlike (marks_at f t k) (marks_in (marks_told f t) u.name) (first_statement ps u.name) u.body
 unit_alike ps h f t over apart head at k u place found has =
     let n = marks_in (marks_told f t) u.name in
-    let it : IsTaking ps h u = adjointed_takes (marks_told f t) ps apart h head at u found has in
+    let it : IsTaking ps h u = part_takes (marks_told f t) ps apart h head at u found has in
     let own : (qs : List Procedure) → units_of f ≡ qs → IsFlowOf qs h f → (i : IsTaking qs h u) → AreAlike (marks_at f t i.part.number) n (first_statement qs u.name) u.body =
     λ qs e. subst (λ rs. IsFlowOf rs h f → (i : IsTaking rs h u) → AreAlike (marks_at f t i.part.number) n (first_statement rs u.name) u.body) e (λ o i. part_alike f t h o u i) in
     subst (λ j. AreAlike (marks_at f t j) n (first_statement ps u.name) u.body) (it.number ∙ place) (own ps over.units over it)
 
 -- the marks of a unit by the places of its variables
-pub marks_found : (f : Flow) (t : flags.Marks) (k : ℕ) (p : row.Part) → At f.parts.items k p → (es : List (List ℕ × ℕ)) → es ≡ p.places →
+pub marks_found : (f : Flow) (t : flags.Marks) (k : ℕ) (p : row.Part) → At f.parts.items k p → (es : List (List ℕ × ℕ)) → es ≡ p.places → (splits : List Bool) → splits ≡ f.split →
     (let m : Marks = record {
       kept = flag t.kept.kept;
       adjointed = λ i. flag t.activity.adjointed (2 * i);
-      split = λ i. false;
+      split = λ i. flag splits i && flag t.activity.adjointed (2 * i);
       saved = λ i v. view.flag_of t.saved.saved f.width i (view.place_of es v);
       varied = λ q v. view.flag_of t.activity.varied f.width q (view.place_of es v);
       useful = λ q v. view.flag_of t.activity.useful f.width q (view.place_of es v);
       shadowed = λ v. view.flag_of t.activity.shadowed f.width k (view.place_of es v);
     } in m ≡ marks_at f t k)
-marks_found f t k p at es is =
+marks_found f t k p at es is splits split =
     λ j. record {
       kept = flag t.kept.kept;
       adjointed = λ i. flag t.activity.adjointed (2 * i);
-      split = λ i. false;
+      split = λ i. flag (split j) i && flag t.activity.adjointed (2 * i);
       saved = λ i v. same t.saved.saved i v j;
       varied = λ q v. same t.activity.varied q v j;
       useful = λ q v. same t.activity.useful q v j;

@@ -13,7 +13,7 @@ use Rattle.def_meaning.proofs.WritesMore.{write_rises}
 use Rattle.def_meaning.proofs.ReadsMore.{read_rises}
 use Rattle.def_meaning.specs.Apart.{has_name, AreApart}
 use Rattle.def_sweep.specs.Declared.{unit_name}
-use Rattle.def_sweep.specs.Names.{adjoint_name}
+use Rattle.def_sweep.specs.Names.{adjoint_name, forth_name, back_name}
 use Rattle.def_sweep.specs.Marking.{ProgramMarks, place_from, dummy_set, read_by, callee_in, callee_of}
 use Rattle.adj_sweep.specs.declared.callees.Dummy.{Dummy}
 use Rattle.adj_sweep.specs.declared.callees.Callee.{Callee}
@@ -27,7 +27,7 @@ use Rattle.adj_flow.specs.Asked.{units_of}
 use Rattle.adj_weave.specs.declared.marks.Marked.{Marked}
 use Rattle.adj_weave.specs.declared.marks.Marked.TheVariants as by
 use Rattle.adj_weave.specs.Marked.{program_marks, reads_in, unit_dummy, dummy_told, HasUnits, KnowsUnits, IsOver}
-use Rattle.adj_weave.specs.Orders.{dummy_said, dummies_said, said, said_of}
+use Rattle.adj_weave.specs.Orders.{Names, names_of, dummy_said, dummies_said, said, said_of}
 use Rattle.adj_weave_units.proofs.Places.{At, at_first, at_next, at_rest, at_there, at_one, at_map, at_place, no_place, find_at}
 use Rattle.adj_weave_units.proofs.Ordered.{unit_place}
 
@@ -50,9 +50,17 @@ over_knows (by.Found g) ps h o = o.units
 
 -- ---- what is said of units
 
+-- the names of what is made of a unit
+abbrev pub made_of : List Procedure → Procedure → Names
+made_of ps u = record { adjoint = adjoint_name ps u; forth = forth_name ps u; back = back_name ps u }
+
+pub names_made : (ps us : List Procedure) → names_of (map (adjoint_name ps) us) (map (forth_name ps) us) (map (back_name ps) us) ≡ map (made_of ps) us
+names_made ps [] = refl
+names_made ps (u ∷ us) = ap (λ z. made_of ps u ∷ z) (names_made ps us)
+
 -- what is said of the units of a program, of which the first is the k-th
-abbrev pub sayings : Marked → List Procedure → ℕ → List Procedure → List (List ℕ × List Dummy)
-sayings m ps k us = said_of m k us (map (adjoint_name ps) us) (map (λ u. map (is_written ps u) u.dummies) us) (map (λ u. map (is_read ps u) u.dummies) us)
+abbrev pub sayings : Marked → List Procedure → ℕ → List Procedure → List (Names × List Dummy)
+sayings m ps k us = said_of m k us (map (made_of ps) us) (map (λ u. map (is_written ps u) u.dummies) us) (map (λ u. map (is_read ps u) u.dummies) us)
 
 -- a dummy of the unit of a number is that of the unit of its name
 dummy_same : (m : Marked) (ps : List Procedure) → KnowsUnits m ps → (name : List ℕ) (k : ℕ) → place_from 0 ps name ≡ k → (d : List ℕ) (w : Bool) →
@@ -94,15 +102,20 @@ dummies_on m k names ws rs j d lt at =
     ∙ (λ i. dummy_said m k d (flag_left ws j i) (flag_left rs j i) ∷ dummies_said m k (drop (j + 1) names) (drop_next ws j i) (drop_next rs j i))
 
 -- what is said of the j-th of some units
-abbrev saying : Marked → List Procedure → ℕ → Procedure → List ℕ × List Dummy
-saying m ps k u = (adjoint_name ps u, dummies_said m k u.dummies (map (is_written ps u) u.dummies) (map (is_read ps u) u.dummies))
+abbrev saying : Marked → List Procedure → ℕ → Procedure → Names × List Dummy
+saying m ps k u = (made_of ps u, dummies_said m k u.dummies (map (is_written ps u) u.dummies) (map (is_read ps u) u.dummies))
+
+-- the names that are left begin with those of the unit at hand
+pub names_on : (k : ℕ) (xs ys zs : List (List ℕ)) (x y z : List ℕ) → k < length xs → x ≡ get_or xs k x → k < length ys → y ≡ get_or ys k y → k < length zs → z ≡ get_or zs k z →
+    (let first : Names = record { adjoint = x; forth = y; back = z } in names_of (drop k xs) (drop k ys) (drop k zs) ≡ first ∷ names_of (drop (k + 1) xs) (drop (k + 1) ys) (drop (k + 1) zs))
+names_on k xs ys zs x y z lx ax ly ay lz az = λ i. names_of (from_here xs k x lx ax i) (from_here ys k y ly ay i) (from_here zs k z lz az i)
 
 -- what is said of the units that are left begins with what is said of the one at hand
-pub said_on : (m : Marked) (k : ℕ) (us : List Unit) (xs : List (List ℕ)) (ws rs : List (List Bool)) (u : Unit) (x : List ℕ) (w r : List Bool) → k < length us → u ≡ get_or us k u → k < length xs → x ≡ get_or xs k x → k < length ws → w ≡ get_or ws k w → k < length rs → r ≡ get_or rs k r →
-    said_of m k (map procedure_of (drop k us)) (drop k xs) (drop k ws) (drop k rs) ≡ (x, dummies_said m k (procedure_of u).dummies w r) ∷ said_of m (k + 1) (map procedure_of (drop (k + 1) us)) (drop (k + 1) xs) (drop (k + 1) ws) (drop (k + 1) rs)
-said_on m k us xs ws rs u x w r lu au lx ax lw aw lr ar =
-    (λ i. said_of m k (map procedure_of (from_here us k u lu au i)) (from_here xs k x lx ax i) (from_here ws k w lw aw i) (from_here rs k r lr ar i))
-    ∙ ap (λ j. (x, dummies_said m k (procedure_of u).dummies w r) ∷ said_of m j (map procedure_of (drop (k + 1) us)) (drop (k + 1) xs) (drop (k + 1) ws) (drop (k + 1) rs)) (sym (add-one k))
+pub said_on : (m : Marked) (k : ℕ) (us : List Unit) (ns rest : List Names) (ws rs : List (List Bool)) (u : Unit) (x : Names) (w r : List Bool) → k < length us → u ≡ get_or us k u → ns ≡ x ∷ rest → k < length ws → w ≡ get_or ws k w → k < length rs → r ≡ get_or rs k r →
+    said_of m k (map procedure_of (drop k us)) ns (drop k ws) (drop k rs) ≡ (x, dummies_said m k (procedure_of u).dummies w r) ∷ said_of m (k + 1) (map procedure_of (drop (k + 1) us)) rest (drop (k + 1) ws) (drop (k + 1) rs)
+said_on m k us ns rest ws rs u x w r lu au ax lw aw lr ar =
+    (λ i. said_of m k (map procedure_of (from_here us k u lu au i)) (ax i) (from_here ws k w lw aw i) (from_here rs k r lr ar i))
+    ∙ ap (λ j. (x, dummies_said m k (procedure_of u).dummies w r) ∷ said_of m j (map procedure_of (drop (k + 1) us)) rest (drop (k + 1) ws) (drop (k + 1) rs)) (sym (add-one k))
 
 said_at : (m : Marked) (ps : List Procedure) (k : ℕ) (us : List Procedure) (j : ℕ) (u : Procedure) → At us j u → At (sayings m ps k us) j (saying m ps (k + j) u)
 said_at m ps k [] j u h = absurd (let l = h.within in omega arith)
@@ -120,7 +133,14 @@ got [] j x d h = absurd (let l = h.within in omega arith)
 got (y ∷ ys) zero x d h = sym h.is
 got (y ∷ ys) (suc j) x d h = let l = h.within in got ys j x d (record { within = omega arith; is = h.is })
 
-module _ (m : Marked) (ps : List Procedure) (over : KnowsUnits m ps) (apart : AreApart (map unit_name ps)) (c : Callees) (names : c.names ≡ map unit_name ps) (known : map said c.known.items ≡ sayings m ps 0 ps) (other : c.other.adjoint ≡ []) (nothing : c.other.dummies.items ≡ []) where
+-- the names that are known of a unit, and those of no unit
+abbrev pub said_names : Callee → Names
+said_names k = record { adjoint = k.adjoint; forth = k.forth; back = k.back }
+
+abbrev pub none_made : Names
+none_made = record { adjoint = []; forth = []; back = [] }
+
+module _ (m : Marked) (ps : List Procedure) (over : KnowsUnits m ps) (apart : AreApart (map unit_name ps)) (c : Callees) (names : c.names ≡ map unit_name ps) (known : map said c.known.items ≡ sayings m ps 0 ps) (other : said_names c.other ≡ none_made) (nothing : c.other.dummies.items ≡ []) where
   abbrev w : ProgramMarks
   w = program_marks m
 
@@ -143,7 +163,7 @@ module _ (m : Marked) (ps : List Procedure) (over : KnowsUnits m ps) (apart : Ar
       let at_name : callee_of w ps u.name (Some u) ≡ callee_in w ps name = ap (λ z. callee_of w ps z (Some u)) (sym called) ∙ ap (callee_of w ps name) (sym found) in
       let place : place_from 0 ps u.name ≡ 0 + j = unit_place 0 ps j u apart o.1 in
       let reads : dummy_set (is_read ps u) ≡ reads_in ps name = ap (λ o. dummy_set (read_by ps o)) (sym found) in
-      let first : Knows k.0 (callee_of w ps u.name (Some u)) (dummy_set (is_read ps u)) = record { adjoint = ap (λ z. z.0) both; dummies = ap (λ z. z.1) both ∙ dummies_same m ps over u (0 + j) place u.dummies } in
+      let first : Knows k.0 (callee_of w ps u.name (Some u)) (dummy_set (is_read ps u)) = record { adjoint = ap (λ z. z.0.adjoint) both; forth = ap (λ z. z.0.forth) both; back = ap (λ z. z.0.back) both; dummies = ap (λ z. z.1) both ∙ dummies_same m ps over u (0 + j) place u.dummies } in
       subst (λ z. Knows z (callee_in w ps name) (reads_in ps name)) (sym here) (subst (λ z. Knows k.0 z (reads_in ps name)) at_name (subst (Knows k.0 (callee_of w ps u.name (Some u))) reads first))
 
   -- of others nothing is known
@@ -154,7 +174,7 @@ module _ (m : Marked) (ps : List Procedure) (over : KnowsUnits m ps) (apart : Ar
   known_other : (name : List ℕ) → position (name_eq name) (map unit_name ps) ≡ None → Knows c.other (callee_in w ps name) (reads_in ps name)
   known_other name p =
       let none : find_unit ps name ≡ None = no_unit ps name (no_place (map unit_name ps) name apart p) in
-      let first : Knows c.other (callee_of w ps name None) (reads_in ps name) = record { adjoint = other; dummies = nothing } in
+      let first : Knows c.other (callee_of w ps name None) (reads_in ps name) = record { adjoint = ap (λ z. z.adjoint) other; forth = ap (λ z. z.forth) other; back = ap (λ z. z.back) other; dummies = nothing } in
       subst (λ z. Knows c.other z (reads_in ps name)) (ap (callee_of w ps name) (sym none)) first
 
   pub all_known : KnowsAll c (callee_in w ps) (reads_in ps)

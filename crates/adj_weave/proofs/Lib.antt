@@ -1,8 +1,8 @@
 -- Which units are emitted, what is known of each, and what is put together.
-pub mod Unsplit
 pub mod Ordered
 pub mod Calling
 pub mod Reached
+pub mod Searched
 pub mod Known
 pub mod Facts
 pub mod Taking
@@ -12,3 +12,4 @@ pub mod Alike
 pub mod Units
 pub mod Program
 pub mod Headed
+pub mod Leaving

@@ -1,4 +1,4 @@
--- The units whose adjoint is emitted take part.
+-- The units that adjointed calls reach take part.
 use Rattle.std.proofs.Common.{◌≡◌, ℕ, zero, suc, Bool, true, false, List, [], ◌∷◌, map, length, refl, sym, ap, ◌∙◌}
 use Rattle.std.specs.Prelude.{◌||◌, ◌&&◌, Some}
 use Rattle.adj_tree.specs.Code.{name_eq, Act, assign, choose, loop, during, call, runtime, Code, stop, step, Procedure}
@@ -8,10 +8,9 @@ use Rattle.def_meaning.specs.Apart.{AreApart}
 use Rattle.def_sweep.specs.Declared.{unit_name, unit_at}
 use Rattle.def_names.proofs.Variables.{and_true, or_left, or_right}
 use Rattle.def_sweep.specs.Marking.{ProgramMarks, first_statement, place_from}
-use Rattle.def_sweep.specs.Program.{calls_act, calls_in, calls_some, reached_after, has_adjoint}
+use Rattle.def_sweep.specs.Program.{calls_act, calls_in, calls_some, reached_after, takes_part}
 use Rattle.law_sweep.proofs.Rounds.{either}
 use Rattle.law_emitted.proofs.Callings.{all_found}
-use Rattle.law_emitted.proofs.Pairs.{adjoint_part}
 use Rattle.def_flow.specs.Parts.{Part, parts, find_part}
 use Rattle.def_names.specs.StatementsIn.{statements_in}
 use Rattle.def_flow.specs.Problem.{Problem, IsHead, TakesPart}
@@ -61,7 +60,7 @@ reached_any roots f ps (suc k) n h =
     (or_left (roots n) (calls_some (reached_after roots any ps k) any n 0 ps))
     (λ e. or_right (roots n) (calls_some (reached_after roots any ps k) any n 0 ps) (some_any f n (reached_after roots f ps k) (reached_after roots any ps k) (λ m. reached_any roots f ps k m) 0 ps e))
 
--- ---- the part of a unit that has an adjoint
+-- ---- the part of a unit that takes part
 
 -- the problem of a head, without independents and dependents
 abbrev pub problem_for : List Procedure → ℕ → Problem
@@ -75,13 +74,13 @@ pub record IsTaking (ps : List Procedure) (h : ℕ) (u : Procedure) : Type 0 whe
   pub number : part.number ≡ place_from 0 ps u.name
   pub first : part.first ≡ first_statement ps u.name
 
-pub adjointed_takes : (m : ProgramMarks) (ps : List Procedure) → AreApart (map unit_name ps) → (h : ℕ) (head : Procedure) → unit_at h ps ≡ head ∷ [] → (u : Procedure) → find_unit ps u.name ≡ Some u → has_adjoint m ps head u.name ≡ true → IsTaking ps h u
-adjointed_takes m ps apart h head at u found has =
+pub part_takes : (m : ProgramMarks) (ps : List Procedure) → AreApart (map unit_name ps) → (h : ℕ) (head : Procedure) → unit_at h ps ≡ head ∷ [] → (u : Procedure) → find_unit ps u.name ≡ Some u → takes_part m ps head u.name ≡ true → IsTaking ps h u
+part_takes m ps apart h head at u found has =
     let g = head_part (statements_in 0 ps) 0 0 ps h head at in
     let finds : find_part (parts ps) g.0.unit.name ≡ Some g.0 = part_found (statements_in 0 ps) 0 0 ps apart h g.0 g.1 in
     let is : IsHead (problem_for ps h) g.0 = record { is = g.1 } in
     let reached : reached_after (name_eq g.0.unit.name) any ps (length ps) u.name ≡ true =
-    ap (λ (v : Procedure). reached_after (name_eq v.name) any ps (length ps) u.name) g.2 ∙ reached_any (name_eq head.name) m.adjointed ps (length ps) u.name (adjoint_part m ps head u.name u found has) in
+    ap (λ (v : Procedure). reached_after (name_eq v.name) any ps (length ps) u.name) g.2 ∙ reached_any (name_eq head.name) m.adjointed ps (length ps) u.name has in
     let t = taking (problem_for ps h) (all_found ps apart) g.0 is finds (length ps) u.name u found reached in
     let there = placed ps u.name t.part t.finds in
     record { part = t.part; unit = some_same t.part.unit u (sym there.found ∙ found); takes = t.takes; number = there.number; first = there.first }

@@ -1,5 +1,9 @@
 -- the definitions of the crate, a module a subject
 pub mod Marked
+pub mod Named
+pub mod Searched
+pub mod Made
+pub mod Left
 pub mod Alike
 pub mod Orders
 pub mod Shared

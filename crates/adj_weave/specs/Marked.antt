@@ -1,5 +1,5 @@
 -- The marks by which a program's adjoint is emitted.
-use Rattle.std.specs.Prelude.{◌≡◌, ℕ, ◌*◌, ◌≤◌, List, [], map, length, Bool, true, false, slice_index_or}
+use Rattle.std.specs.Prelude.{◌≡◌, ℕ, ◌*◌, ◌≤◌, List, [], map, length, Bool, true, false, ◌&&◌, slice_index_or}
 use Rattle.adj_tree.specs.Code.{plain, Procedure}
 use Rattle.adj_tree.specs.declared.marks.Marks as flags
 use Rattle.def_meaning.specs.Written.{find_unit}
@@ -19,7 +19,7 @@ use Rattle.adj_weave.specs.declared.marks.Marked.TheVariants as by
 
 -- ---- what flags tell over the flow of a program
 
--- the marks of the program: no call is split
+-- the marks of the program: an adjointed call that is flagged is split
 abbrev pub marks_told : Flow → flags.Marks → ProgramMarks
 marks_told f t =
     let a = activity_of f t.activity in
@@ -27,7 +27,7 @@ marks_told f t =
     record {
       kept = l.kept;
       adjointed = a.adjointed;
-      split = λ i. false;
+      split = λ i. flag f.split i && a.adjointed i;
       saved = saved_of f t.saved;
       varied = a.varied;
       useful = a.useful;
@@ -42,7 +42,7 @@ marks_at f t k =
     record {
       kept = flag t.kept.kept;
       adjointed = λ i. flag t.activity.adjointed (2 * i);
-      split = λ i. false;
+      split = λ i. flag f.split i && flag t.activity.adjointed (2 * i);
       saved = λ i v. flag_at t.saved.saved (node_in f.width vs (i, v));
       varied = λ p v. flag_at t.activity.varied (node_in f.width vs (p, v));
       useful = λ p v. flag_at t.activity.useful (node_in f.width vs (p, v));

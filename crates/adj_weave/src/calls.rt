@@ -2,7 +2,9 @@
 
 ghost use Rattle.std.specs.Prelude.{◌≡◌, IfOk};
 ghost use Rattle.adj_weave_units.specs.Calls.{edges_of};
-ghost use Rattle.adj_weave.specs.Orders.{is_edge};
+ghost use Rattle.adj_sweep.specs.HelperSteps.{are_reversed};
+ghost use Rattle.adj_weave.specs.Marked.{program_marks};
+ghost use Rattle.adj_weave.specs.Orders.{is_edge, is_step_call};
 
 use crate::marks::Marked;
 use adj_sweep::steps::MarkedLoops;
@@ -13,9 +15,24 @@ use std::alloc::Global;
 /// Which calls count.
 #[derive(Clone, Copy, PartialEq, Eq, Debug)]
 pub enum Counting {
-    /// Calls of units as they are: kept calls, and adjointed step calls where marked loops are reversed.
+    /// Those that an adjoint makes as they are: kept calls that aren't split, and adjointed step calls where marked loops are reversed.
     Plain(MarkedLoops),
+    /// Those that a forward or a backward unit makes as they are: the same, where each call is kept.
+    Paired(MarkedLoops),
     Adjointed,
+    /// Those that name an adjoint: adjointed calls that aren't split.
+    Whole,
+    Split,
+}
+
+// Whether a call is the step call of a marked loop that is reversed by a schedule.
+fn is_reversed_step(marked: &Marked<'_>, loops: MarkedLoops, call: &Call) -> bool
+    ensures is { result ≡ is_step_call (program_marks marked.now) (are_reversed loops) call.now.number call.now.turns }
+{
+    match loops {
+        MarkedLoops::Plain => false,
+        MarkedLoops::Reversed => call.turns && marked.adjointed(call.number),
+    }
 }
 
 impl Counting {
@@ -23,12 +40,18 @@ impl Counting {
     fn counts(self, marked: &Marked<'_>, call: &Call) -> bool
         ensures counts { result ≡ is_edge marked.now self call.now.number call.now.turns }
     {
+        let number = call.number;
         match self {
-            Counting::Plain(MarkedLoops::Plain) => marked.kept(call.number),
-            Counting::Plain(MarkedLoops::Reversed) => {
-                marked.kept(call.number) || call.turns && marked.adjointed(call.number)
+            Counting::Plain(loops) => {
+                marked.kept(number) && !marked.split(number)
+                    || is_reversed_step(marked, loops, call)
             }
-            Counting::Adjointed => marked.adjointed(call.number),
+            Counting::Paired(loops) => {
+                !marked.split(number) || is_reversed_step(marked, loops, call)
+            }
+            Counting::Adjointed => marked.adjointed(number),
+            Counting::Whole => marked.adjointed(number) && !marked.split(number),
+            Counting::Split => marked.adjointed(number) && marked.split(number),
         }
     }
 }

@@ -2,6 +2,7 @@
 
 ghost use Rattle.std.specs.Prelude.{◌≡◌, ◌+◌, ◌*◌, ◌<◌, IfOk, length};
 ghost use Rattle.adj_tree.specs.Code.{plain};
+ghost use Rattle.def_sweep.specs.SplitMarks.{split_marks};
 ghost use Rattle.adj_reach.specs.Edges.{flag};
 ghost use Rattle.adj_flow.specs.Told.{told_of};
 ghost use Rattle.adj_sweep_assignment.specs.View.{found_marks, marks_of};
@@ -73,6 +74,7 @@ impl<'a> FoundMarks<'a> {
         let parts = self.flow.parts.as_slice();
         Found {
             marks: self.marks,
+            split: self.flow.split.as_slice(),
             unit,
             places: &parts[unit].places,
             width: self.flow.width,
@@ -112,6 +114,18 @@ impl<'a> Marked<'a> {
         }
     }
 
+    /// Whether the statement is a split call.
+    pub fn split(&self, number: usize) -> bool
+        ensures split { result ≡ (program_marks self.now).split number }
+    {
+        match self {
+            Marked::Full => false,
+            Marked::Found(found) => {
+                flag_at(found.flow.split.as_slice(), number) && self.adjointed(number)
+            }
+        }
+    }
+
     /// The marks as the unit of a number sees them.
     pub fn of_unit(&self, unit: usize) -> Marking<'a>
         requires unit { HasUnits self.now (unit + 1) }
@@ -120,6 +134,17 @@ impl<'a> Marked<'a> {
         match self {
             Marked::Full => Marking::Full,
             Marked::Found(found) => Marking::Found(found.of_unit(unit)),
+        }
+    }
+
+    /// The marks by which the forward and the backward unit of the unit of a number are written.
+    pub fn of_pair(&self, unit: usize) -> Marking<'a>
+        requires unit { HasUnits self.now (unit + 1) }
+        ensures marks { marks_of result ≡ split_marks (unit_marks self.now unit) }
+    {
+        match self {
+            Marked::Full => Marking::Full,
+            Marked::Found(found) => Marking::Pair(found.of_unit(unit)),
         }
     }
 

@@ -1,12 +1,18 @@
 //! The adjoint of a unit (docs/EMITTED.md, "The units").
 
-ghost use Rattle.std.specs.Prelude.{◌≡◌, IfOk};
-ghost use Rattle.adj_tree.specs.View.{procedure_of};
+ghost use Rattle.std.specs.Prelude.{◌≡◌, IfOk, map};
+ghost use Rattle.adj_tree.specs.View.{code_of, procedure_of};
 ghost use Rattle.def_sweep.specs.Program.{adjoint_unit_with};
+ghost use Rattle.adj_naming.specs.Roles.{variable_of};
+ghost use Rattle.adj_naming.specs.Table.{table_of};
+ghost use Rattle.adj_sweep_assignment.specs.View.{marks_of};
+ghost use Rattle.adj_weave.specs.Made.{unit_under};
 ghost use Rattle.adj_weave.specs.Shared.{sources, marks_for, reversed_for, IsShared, IsPart, HaveShadows};
 
 use crate::marks::Marked;
+use adj_naming::names::Names;
 use adj_naming::naming::names;
+use adj_naming::role::Helper;
 use adj_sets::NameSet;
 use adj_sweep::bodies::Body;
 use adj_sweep::callees::Callees;
@@ -16,14 +22,14 @@ use adj_sweep::used::helpers_used;
 use adj_sweep::uses::Known;
 use adj_sweep_assignment::Marking;
 use adj_symbols::Checked;
-use adj_tree::{Items, Memory, Name, Unit};
+use adj_tree::{Items, Memory, Name, Stmts, Unit};
 use adj_weave_units::arrays::arrays_of;
 use adj_weave_units::declarations::declarations;
 use adj_weave_units::shadows::{shadowed, with_shadows};
 use std::alloc::Global;
 
-/// What the adjoints of all units share: the checked program, its marks, whether marked loops are reversed, what is known of called units, the
-/// names of the units and of the adjoints that are emitted, and the names that no new variable may have.
+/// What the units that are made share: the checked program, its marks, whether marked loops are reversed, what is known of called units, the
+/// names of the units and of those that are made and emitted, and the names that no new variable may have.
 #[derive(Clone, Copy)]
 pub struct Shared<'a> {
     pub checked: &'a Checked,
@@ -34,14 +40,45 @@ pub struct Shared<'a> {
     pub taken: &'a NameSet,
 }
 
-/// A unit, its marks, its variables, the name of its adjoint and the number of its first statement.
+/// A unit, its marks and those by which its forward and its backward unit are written, its variables, which of its dummies it writes, the
+/// names of what is made of it, and the number of its first statement.
 #[derive(Clone, Copy)]
 pub struct Part<'a> {
     pub unit: &'a Unit,
     pub marking: Marking<'a>,
+    pub pairing: Marking<'a>,
     pub variables: &'a [Name],
+    pub written: &'a [bool],
     pub adjoint: &'a Name,
+    pub forth: &'a Name,
+    pub back: &'a Name,
     pub number: usize,
+}
+
+/// A unit that is made of another, with this name, the helpers that its code uses, and this code, under these names. The shadows are those of
+/// a marking.
+pub(crate) fn made_unit(
+    alloc: Global,
+    unit: &Unit,
+    variables: &[Name],
+    shadows: &Marking<'_>,
+    all: &Names,
+    helpers: &[Helper],
+    name: &Name,
+    body: Stmts,
+) -> Result<Unit, Memory>
+    ensures unit { IfOk result (λ u. procedure_of u ≡ unit_under (table_of all.now) name.now (marks_of shadows.now).shadowed (procedure_of unit.now) variables.now (map variable_of helpers.now) (code_of body)) }
+{
+    let dummies = with_shadows(alloc, all, shadows, unit.dummies.as_slice())?;
+    let decls = declarations(alloc, all, shadows, unit, variables, helpers)?;
+    Ok(Unit {
+        line: unit.line,
+        name: name.copy(alloc)?,
+        dummies: Items::new(dummies),
+        none: false,
+        decls: Items::new(decls),
+        body,
+    })
 }
 
 /// The adjoint of a unit, in which the shadows of some variables are set to 0 between the sweeps, and of some at the end.
@@ -77,8 +114,6 @@ pub fn adjoint_unit(
         arrays: &arrays,
         callees: shared.callees,
     };
-    let dummies = with_shadows(alloc, &all, marks, unit.dummies.as_slice())?;
-    let decls = declarations(alloc, &all, marks, unit, part.variables, helpers)?;
     let given = Body {
         statements: &unit.body,
         number: part.number,
@@ -87,12 +122,7 @@ pub fn adjoint_unit(
         at_end,
     };
     let body = plan.adjoint_body(alloc, &given)?;
-    Ok(Unit {
-        line: unit.line,
-        name: part.adjoint.copy(alloc)?,
-        dummies: Items::new(dummies),
-        none: false,
-        decls: Items::new(decls),
-        body,
-    })
+    let (variables, name) = (part.variables, part.adjoint);
+    let shadows = &part.marking;
+    made_unit(alloc, unit, variables, shadows, &all, helpers, name, body)
 }

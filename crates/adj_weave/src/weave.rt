@@ -1,22 +1,25 @@
 //! The emitted program (docs/EMITTED.md, "The units").
 
-ghost use Rattle.std.specs.Prelude.{◌≡◌, ◌++◌, ◌∷◌, [], ◌<◌, true, IfOk, OnOk, map, length};
+ghost use Rattle.std.specs.Prelude.{◌≡◌, ◌++◌, ◌∷◌, [], ◌<◌, ◌||◌, true, IfOk, OnOk, map, length};
 ghost use Rattle.adj_tree.specs.Code.{Procedure};
 ghost use Rattle.adj_tree.specs.View.{procedure_of, procedures_of};
 ghost use Rattle.def_kernel.specs.Form.{IsKernel};
 ghost use Rattle.def_meaning.specs.Apart.{AreApart};
 ghost use Rattle.def_sweep.specs.Declared.{unit_name, unit_at};
-ghost use Rattle.def_sweep.specs.Program.{has_adjoint, is_carried_with, emitted_adjoint_with, emitted_units_with, emitted_program_with};
+ghost use Rattle.def_sweep.specs.Program.{has_adjoint, has_pair, forth_unit, back_unit, is_carried_with, emitted_adjoint_with, emitted_units_with, emitted_program_with};
 ghost use Rattle.law_emitted.specs.Shadowed.{AllHaveShadows};
+ghost use Rattle.law_emitted.specs.Splits.{AllMaySplit};
 ghost use Rattle.adj_sweep.specs.HelperSteps.{are_reversed};
 ghost use Rattle.adj_weave.specs.Marked.{program_marks, IsOver};
-ghost use Rattle.adj_weave_units.specs.Calls.{flagged};
-ghost use Rattle.adj_weave.specs.Shared.{sources, marks_for, reversed_for, IsPart};
-ghost use Rattle.adj_weave.specs.Woven.{IsTable, IsReady, head_of, only_if, emitted_for};
+ghost use Rattle.adj_weave.specs.Named.{made_flagged};
+ghost use Rattle.adj_weave.specs.Shared.{sources, marks_for, reversed_for, IsShared, IsPart};
+ghost use Rattle.adj_weave.specs.Woven.{IsTable, IsReady, head_of, only_if, pair_if, emitted_for};
 
 use crate::called::known_callees;
 use crate::found::{Found, found_units};
+use crate::made::{MadeNames, all_made};
 use crate::marks::Marked;
+use crate::pair::{back_unit, forth_unit};
 use crate::unit::{Part, Shared, adjoint_unit};
 use adj_naming::naming::not_free;
 use adj_sets::{NameSet, add_names};
@@ -25,14 +28,14 @@ use adj_symbols::Checked;
 use adj_tree::{Head, Items, Memory, Name, Program, Unit, Units};
 use adj_weave_units::numbers::first_statements;
 use adj_weave_units::shadows::{shadowed, unmarked};
-use adj_weave_units::source::{add_all_flagged, made_names, source_names, unit_names, units_of};
+use adj_weave_units::source::{unit_names, units_of};
 use std::alloc::Global;
 
-/// What is found of the units of a checked program before any is emitted, in their order: the names of their adjoints, the numbers of
+/// What is found of the units of a checked program before any is emitted, in their order: the names of what is made of them, the numbers of
 /// their first statements, and which are emitted.
 #[derive(Drop)]
 pub struct Table {
-    pub adjoints: Vec<Name>,
+    pub names: MadeNames,
     pub numbers: Vec<usize>,
     pub found: Found,
 }
@@ -46,11 +49,12 @@ pub struct Aim<'a> {
     pub outvars: &'a [bool],
 }
 
-/// Whether a unit is emitted as it is, and whether its adjoint is.
+/// Whether a unit is emitted as it is, whether its adjoint is, and whether its forward and its backward unit are.
 #[derive(Clone, Copy, PartialEq, Eq, Debug)]
 pub struct Emits {
     pub carried: bool,
     pub adjointed: bool,
+    pub paired: bool,
 }
 
 // The units that are emitted for a head, found by the names of units.
@@ -66,6 +70,7 @@ fn found_by_names(
     requires names { names.now ≡ map unit_name (map procedure_of units.now) }
     requires apart { AreApart names.now }
     ensures adjointed { IfOk result (λ f. (h : Procedure) → unit_at head (map procedure_of units.now) ≡ h ∷ [] → f.adjointed ≡ map (λ u. has_adjoint (program_marks marked.now) (map procedure_of units.now) h u.name) (map procedure_of units.now)) }
+    ensures paired { IfOk result (λ f. (h : Procedure) → unit_at head (map procedure_of units.now) ≡ h ∷ [] → f.paired ≡ map (λ u. has_pair (program_marks marked.now) (map procedure_of units.now) h u.name) (map procedure_of units.now)) }
     ensures carried { IfOk result (λ f. (h : Procedure) → unit_at head (map procedure_of units.now) ≡ h ∷ [] → f.carried ≡ map (λ u. is_carried_with (are_reversed loops) (program_marks marked.now) (map procedure_of units.now) h u.name) (map procedure_of units.now)) }
 {
     let mut set = NameSet::new(alloc)?;
@@ -89,25 +94,26 @@ fn tabulated(
     ensures table { IfOk result (λ t. (h : Procedure) → unit_at head (procedures_of checked.now.program) ≡ h ∷ [] → IsTable (are_reversed loops) (program_marks marked.now) (procedures_of checked.now.program) h t) }
 {
     let units = units_of(checked);
-    let source = source_names(alloc, names, checked)?;
-    let adjoints = made_names(alloc, units, b"_B", &source)?;
+    let made = all_made(alloc, checked, names)?;
     let numbers = first_statements(alloc, units)?;
     let found = found_by_names(alloc, marked, units, names, head, loops)?;
     Ok(Table {
-        adjoints,
+        names: made,
         numbers,
         found,
     })
 }
 
-// The names of the units of the source, and those of the adjoints that are emitted.
+// The names of the units of the source, and those of the units that are made and emitted.
 fn all_names(alloc: Global, own: Vec<Name>, table: &Table) -> Result<Vec<Name>, Memory>
-    requires same { length table.now.found.adjointed ≡ length table.now.adjoints.items }
-    ensures names { IfOk result (λ v. v.items ≡ own.items ++ flagged table.now.found.adjointed table.now.adjoints.items) }
+    requires forths { length table.now.names.forths.items ≡ length table.now.names.adjoints.items }
+    requires backs { length table.now.names.backs.items ≡ length table.now.names.adjoints.items }
+    requires adjointed { length table.now.found.adjointed ≡ length table.now.names.adjoints.items }
+    requires paired { length table.now.found.paired ≡ length table.now.names.adjoints.items }
+    ensures names { IfOk result (λ v. v.items ≡ own.items ++ made_flagged table.now.found.adjointed table.now.found.paired table.now.names.adjoints.items table.now.names.forths.items table.now.names.backs.items) }
 {
     let mut all = own;
-    let flags = table.found.adjointed.as_slice();
-    add_all_flagged(alloc, flags, table.adjoints.as_slice(), &mut all)?;
+    table.names.add_emitted(alloc, &table.found, &mut all)?;
     Ok(all)
 }
 
@@ -164,7 +170,26 @@ fn add_adjoint(
     Ok(())
 }
 
-// The unit as it is, where it is carried, and then its adjoint, where it has one, behind the others.
+// The forward and the backward unit of the unit, if it has them, behind the others.
+fn add_pair(
+    alloc: Global,
+    shared: &Shared,
+    part: &Part,
+    paired: bool,
+    made: &mut Vec<Unit>,
+) -> Result<(), Memory>
+    requires shared { IsShared shared.now }
+    requires part { paired ≡ true → IsPart (marks_for shared.now) (sources shared.now) part.now }
+    ensures units { OnOk result (map procedure_of made.new.items ≡ map procedure_of made.old.items ++ pair_if paired (forth_unit (reversed_for shared.now) (marks_for shared.now) (sources shared.now) shared.now.names.now (procedure_of part.now.unit.now)) (back_unit (reversed_for shared.now) (marks_for shared.now) (sources shared.now) shared.now.names.now (procedure_of part.now.unit.now))) }
+{
+    if paired {
+        made.push(forth_unit(alloc, shared, part)?)?;
+        made.push(back_unit(alloc, shared, part)?)?;
+    }
+    Ok(())
+}
+
+// The unit as it is, where it is carried, then its adjoint, and its forward and backward unit, where it has them, behind the others.
 fn add_unit(
     alloc: Global,
     shared: &Shared,
@@ -174,15 +199,16 @@ fn add_unit(
     made: &mut Vec<Unit>,
 ) -> Result<(), Memory>
     requires ready { IsReady shared.now aim.now }
-    requires part { emits.adjointed ≡ true → IsPart (marks_for shared.now) (sources shared.now) part.now }
+    requires part { (emits.adjointed || emits.paired) ≡ true → IsPart (marks_for shared.now) (sources shared.now) part.now }
     ensures units { OnOk result (map procedure_of made.new.items ≡ map procedure_of made.old.items ++ emitted_for (reversed_for shared.now) (marks_for shared.now) emits (sources shared.now) aim.now (procedure_of part.now.unit.now)) }
 {
     add_carried(alloc, part.unit, emits.carried, made)?;
     add_adjoint(alloc, shared, part, aim, emits.adjointed, made)?;
+    add_pair(alloc, shared, part, emits.paired, made)?;
     Ok(())
 }
 
-// Each unit as it is, where it is carried, and then its adjoint, where it has one.
+// Each unit as it is, where it is carried, then its adjoint, and its forward and backward unit, where it has them.
 fn emitted(alloc: Global, shared: &Shared, table: &Table, aim: &Aim) -> Result<Vec<Unit>, Memory>
     requires ready { IsReady shared.now aim.now }
     requires flow { IsOver shared.now.marked (sources shared.now) aim.now.number }
@@ -194,28 +220,37 @@ fn emitted(alloc: Global, shared: &Shared, table: &Table, aim: &Aim) -> Result<V
     let units = units_of(checked);
     let carried = table.found.carried.as_slice();
     let adjointed = table.found.adjointed.as_slice();
-    let adjoints = table.adjoints.as_slice();
+    let paired = table.found.paired.as_slice();
+    let adjoints = table.names.adjoints.as_slice();
+    let forths = table.names.forths.as_slice();
+    let backs = table.names.backs.as_slice();
     let numbers = table.numbers.as_slice();
     let mut made = Vec::new(alloc);
     for (k, unit) in units.iter().enumerate() {
         let part = Part {
             unit,
             marking: shared.marked.of_unit(k),
+            pairing: shared.marked.of_pair(k),
             variables: checked.variables(k).as_slice(),
+            written: checked.writes(k).as_slice(),
             adjoint: &adjoints[k],
+            forth: &forths[k],
+            back: &backs[k],
             number: numbers[k],
         };
         let emits = Emits {
             carried: carried[k],
             adjointed: adjointed[k],
+            paired: paired[k],
         };
         add_unit(alloc, shared, &part, aim, emits, &mut made)?;
     }
     Ok(made)
 }
 
-/// The program that is emitted for a head of a checked program in kernel form, by these marks, whose shadows are there: with full
-/// marks they are. Marked loops are gone through as loops as others, or are reversed by schedules.
+/// The program that is emitted for a head of a checked program in kernel form, by these marks, whose shadows are there, and which split only
+/// adjointed calls other than the step calls of loops that are reversed by schedules: with full marks both are so. Marked loops are gone
+/// through as loops as others, or are reversed by schedules.
 pub fn adjoint(
     alloc: Global,
     checked: &Checked,
@@ -227,6 +262,7 @@ pub fn adjoint(
     requires kernel { IsKernel (procedures_of checked.now.program) }
     requires flow { IsOver marked (procedures_of checked.now.program) head.now.unit }
     requires shadows { AllHaveShadows (program_marks marked) (procedures_of checked.now.program) (procedures_of checked.now.program) }
+    requires splits { AllMaySplit (are_reversed loops) (program_marks marked) (procedures_of checked.now.program) (procedures_of checked.now.program) }
     ensures emitted { IfOk result (λ p. procedures_of p ≡ emitted_program_with (are_reversed loops) (program_marks marked.entry) (procedures_of checked.now.program) head.now.unit head.now.vars head.now.outvars) }
 {
     let units = units_of(checked);
@@ -234,8 +270,7 @@ pub fn adjoint(
     let own = unit_names(alloc, units)?;
     let names = own.as_slice();
     let table = tabulated(alloc, &marked, checked, names, number, loops)?;
-    let adjoints = table.adjoints.as_slice();
-    let callees = known_callees(alloc, &marked, checked, names, adjoints)?;
+    let callees = known_callees(alloc, &marked, checked, names, &table.names)?;
     let all = all_names(alloc, own, &table)?;
     let listed = all.as_slice();
     let taken = not_free(alloc, listed)?;

@@ -67,7 +67,7 @@ first_numbers ps a = numbers_are 0 ps a
 one_more : (x : List ℕ) (xs ys : List (List ℕ)) → SameNames xs ys → SameNames (xs ++ (x ∷ [])) (ys ++ (x ∷ []))
 one_more x xs ys h = record { at = λ z. has-behind z xs (x ∷ []) ∙ ap (λ b. b || has_name z (x ∷ [])) (h.at z) ∙ sym (has-behind z ys (x ∷ [])) }
 
-named_are : (ending : List ℕ) (taken others : List (List ℕ)) (us : List Procedure) → AreApart (map unit_name us) → SameNames taken others → named_list ending taken us ≡ map (λ u. named_after ending others us u.name) us
+pub named_are : (ending : List ℕ) (taken others : List (List ℕ)) (us : List Procedure) → AreApart (map unit_name us) → SameNames taken others → named_list ending taken us ≡ map (λ u. named_after ending others us u.name) us
 named_are ending taken others [] a h = refl
 named_are ending taken others (u ∷ us) a h =
     let base = u.name ++ ending in

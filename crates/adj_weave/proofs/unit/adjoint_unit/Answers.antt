@@ -1,27 +1,26 @@
 use Rattle.std.proofs.Common.{◌≡◌, ◌++◌, map, ap, sym, subst, ◌∙◌}
+use Rattle.std.specs.Prelude.{IfOk}
 use Rattle.adj_tree.specs.Code.{shadow}
-use Rattle.adj_tree.specs.View.{declaration_of, procedure_of, code_of}
+use Rattle.adj_tree.specs.View.{procedure_of, code_of}
 use Rattle.def_names.specs.Variables.{variables}
 use Rattle.def_meaning.specs.Rename.{rename}
 use Rattle.def_sweep.specs.Marked.{names_in}
 use Rattle.def_meaning.specs.Apart.{AreApart}
 use Rattle.def_sweep.specs.Naming.{unit_names}
-use Rattle.def_sweep.specs.Declared.{declared_helpers}
-use Rattle.def_sweep.specs.MarkedProgram.{shadows_behind, declared_behind}
 use Rattle.def_sweep.specs.Plan.{Plan}
 use Rattle.def_sweep.specs.Marking.{first_statement, marks_in, plan_in, arrays_of, callee_in}
-use Rattle.def_sweep.specs.Program.{helpers_used_with, adjoint_names_with, schedules_in}
+use Rattle.def_sweep.specs.Program.{helpers_used_with, schedules_in}
 use Rattle.def_sweep.specs.Emission.{adjoint_body_with}
 use Rattle.law_sweep.proofs.Variables.{variables_apart}
+use Rattle.law_emitted.proofs.Makings.{as_adjoint, ClearsOwn}
 use Rattle.adj_naming.specs.Roles.{variable_of}
 use Rattle.adj_naming.specs.Sets.{AreDifferent}
 use Rattle.adj_naming.specs.Table.{table_of, named_by}
 use Rattle.adj_sweep_assignment.specs.View.{marks_of}
 use Rattle.adj_weave.specs.Marked.{reads_in}
 use Rattle.adj_weave.specs.Shared.{sources, marks_for, reversed_for}
-use Rattle.adj_weave.proofs.Unsplit.{splits_nothing}
 use Rattle.adj_weave.proofs.Alike.{helpers_same, alike_body}
-use Rattle.adj_weave.proofs.Units.{helpers_different, body_same, unit_is}
+use Rattle.adj_weave.proofs.Units.{its_table, cleared_own, helpers_different, body_same, unit_is}
 use Rattle.adj_weave_units.proofs.Units.{shadowed_apart, arrays_are}
 use Rattle.adj_weave.proofs.unit.adjoint_unit.Goals as goal
 
@@ -48,7 +47,6 @@ returns c =
     let u = procedure_of g.unit.now in
     let ps = sources s in
     let m = marks_for s in
-    let unsplit = splits_nothing s.marked in
     let units = s.names.now in
     let vs = variables u in
     let at_turn = c.args.at_turn.now in
@@ -60,26 +58,28 @@ returns c =
     let callees = callee_in m ps in
     let sb = reversed_for s in
     let sc = schedules_in sb ps in
+    let k = as_adjoint at_turn at_end in
+    let clears : ClearsOwn m u k = (cleared_own m u at_turn c.requires.at_turn, cleared_own m u at_end c.requires.at_end) in
+    let shared = c.requires.shared in
+    let found = c.requires.part.found in
     let alike = c.requires.part.marks in
     let shadows : t.shadowed ≡ m.shadowed u.name = alike.shadowed in
     let own = c.as_slice.ensures.value ∙ c.in_ok-own.ensures.names ∙ (λ j. names_in (shadows j) (c.requires.part.variables j)) in
     let hs : map variable_of c.as_slice-helpers.result.now ≡ helpers_used_with sc (plan_in m ps u) i u.body =
-    ap (map variable_of) c.as_slice-helpers.ensures.value ∙ c.in_ok-used.ensures.helpers (arrays_of u) callees (reads_in ps) c.requires.shared.callees
+    ap (map variable_of) c.as_slice-helpers.ensures.value ∙ c.in_ok-used.ensures.helpers (arrays_of u) callees (reads_in ps) shared.callees
     ∙ ap (λ k. let p : Plan = record { marks = t; arrays = arrays_of u; callees = callees } in helpers_used_with sc p k u.body) c.requires.part.number
     ∙ helpers_same t w shadows sc (arrays_of u) callees i u.body alike.over in
-    let table : table_of n ≡ adjoint_names_with sb m ps units u =
-    c.in_ok-all.ensures.names units c.requires.shared.taken
+    let table : table_of n ≡ its_table sb m ps shared.checked shared.shadows shared.splits u found units k clears =
+    c.in_ok-all.ensures.names units shared.taken
     ∙ (λ j. unit_names (c.requires.part.variables j) units (map shadow (own j) ++ hs j)) in
     let body : code_of c.in_ok-body.body ≡ rename (named_by n) (adjoint_body_with sc (plan_in m ps u) i u.line u.body at_turn at_end) =
-    c.in_ok-body.ensures.body callees (reads_in ps) c.requires.shared.callees
+    c.in_ok-body.ensures.body callees (reads_in ps) shared.callees
     ∙ (λ j. let p : Plan = record { marks = t; arrays = arrays_are u c.in_ok-arrays.arrays c.in_ok-arrays.ensures.arrays j; callees = callees } in rename (named_by n) (adjoint_body_with sc p (c.requires.part.number j) u.line u.body at_turn at_end))
     ∙ ap (rename (named_by n)) (alike_body t w shadows sc (arrays_of u) callees i u.line u.body at_turn at_end alike.over) in
     record {
-      unit = unit_is sb m unsplit ps c.requires.shared.checked c.requires.shared.shadows u c.requires.part.found units at_turn at_end c.requires.at_turn c.requires.at_end
-          c.in_ok-copy.field-0 (table_of n) c.new.result (map variable_of c.as_slice-helpers.result.now) (map declaration_of c.new-2.result) (code_of c.in_ok-body.body)
-          (c.in_ok-copy.ensures.same ∙ c.requires.part.adjoint) table
-          (c.new.ensures.members ∙ c.in_ok-dummies.ensures.names ∙ (λ j. shadows_behind (shadows j) (table_of n) (c.as_slice-2.ensures.members j)))
-          hs
-          (ap (map declaration_of) c.new-2.ensures.members ∙ c.in_ok-decls.ensures.declarations ∙ (λ j. declared_behind (shadows j) (table_of n) u (c.requires.part.variables j) ++ declared_helpers (table_of n) u.line (map variable_of c.as_slice-helpers.result.now)))
-          (body ∙ body_same sb m unsplit ps c.requires.shared.checked c.requires.shared.shadows u c.requires.part.found units at_turn at_end c.requires.at_turn c.requires.at_end n table);
+      unit = subst (λ z. IfOk c.made_unit.result (λ v. procedure_of v ≡ z))
+          (unit_is sb m ps shared.checked shared.shadows shared.splits u found units k clears (table_of n) g.adjoint.now t.shadowed g.variables.now (map variable_of c.as_slice-helpers.result.now) (code_of c.in_ok-body.body)
+          table c.requires.part.adjoint shadows c.requires.part.variables hs
+          (body ∙ body_same sb m ps shared.checked shared.shadows shared.splits u found units k clears n table))
+          c.made_unit.ensures.unit;
     }

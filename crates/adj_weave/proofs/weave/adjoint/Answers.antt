@@ -5,11 +5,10 @@ use Rattle.def_sweep.specs.Declared.{unit_name, unit_at}
 use Rattle.def_sweep.specs.Program.{emitted_program_with}
 use Rattle.adj_sweep.specs.HelperSteps.{are_reversed}
 use Rattle.adj_weave.specs.Marked.{program_marks}
-use Rattle.adj_weave_units.specs.Calls.{flagged}
+use Rattle.adj_weave.specs.Named.{made_flagged}
 use Rattle.adj_weave_units.proofs.Facts.{units_apart, in_form}
 use Rattle.adj_weave.proofs.Known.{over_knows}
-use Rattle.adj_weave.proofs.Unsplit.{splits_nothing}
-use Rattle.adj_weave.proofs.Program.{program_emitted, same_length, all_are}
+use Rattle.adj_weave.proofs.Program.{program_emitted, same_lengths, all_are}
 use Rattle.adj_weave_units.proofs.Standing.{number_there, head_there}
 use Rattle.adj_weave.proofs.weave.adjoint.Goals as goal
 
@@ -35,16 +34,17 @@ known_callees-requires-clause-apart c =
     let names = c.as_slice-names.ensures.value ∙ c.in_ok-own.ensures.names ∙ ap (λ us. map unit_name (map procedure_of us)) c.units_of-units.ensures.units in
     subst AreApart (sym names) (units_apart c.args.checked.now c.units_of-units.ensures.facts)
 
-pub known_callees-requires-clause-adjoints : goal.known_callees-requires-clause-adjoints
-known_callees-requires-clause-adjoints c =
+pub known_callees-requires-clause-made : goal.known_callees-requires-clause-made
+known_callees-requires-clause-made c =
     let o = head_there c.args.checked.now.program.units c.args.head.now.unit c.requires.head in
     let told = c.in_ok-table.ensures.table (procedure_of o.0) o.1 in
-    c.as_slice-adjoints.ensures.value ∙ told.adjoints
+    told.names
 
 pub all_names-requires : goal.all_names-requires
 all_names-requires c =
     let o = head_there c.args.checked.now.program.units c.args.head.now.unit c.requires.head in
-    record { same = same_length (are_reversed c.args.loops) (program_marks c.args.marked) (procedures_of c.args.checked.now.program) (procedure_of o.0) c.in_ok-table.table (c.in_ok-table.ensures.table (procedure_of o.0) o.1) }
+    let many = same_lengths (are_reversed c.args.loops) (program_marks c.args.marked) (procedures_of c.args.checked.now.program) (procedure_of o.0) c.in_ok-table.table (c.in_ok-table.ensures.table (procedure_of o.0) o.1) in
+    record { forths = many.forths; backs = many.backs; adjointed = many.adjointed; paired = many.paired }
 
 pub bounds-units-number : goal.bounds-units-number
 bounds-units-number c = subst (λ us. c.args.head.now.unit < length us) (sym c.units_of-units.ensures.units) c.requires.head
@@ -56,18 +56,20 @@ emitted-requires-clause-ready c =
     let number = c.args.head.now.unit in
     let h = c.index-units-number.result in
     let at : unit_at number ps ≡ procedure_of h ∷ [] = number_there c.units_of-units.result.now c.args.checked.now.program.units c.units_of-units.ensures.units number c.requires.head h c.index-units-number.is in
+    let t = c.in_ok-table.table in
     let told = c.in_ok-table.ensures.table (procedure_of h) at in
     let own : c.in_ok-own.own.items ≡ map unit_name ps = c.in_ok-own.ensures.names ∙ ap (λ xs. map unit_name (map procedure_of xs)) c.units_of-units.ensures.units in
     record {
       shared = record {
         checked = in_form k c.units_of-units.ensures.facts c.requires.kernel;
         shadows = c.requires.shadows;
+        splits = c.requires.splits;
         callees = c.in_ok-callees.ensures.known;
         taken = c.in_ok-taken.ensures.names;
       };
       names = c.as_slice-listed.ensures.value
-          ∙ all_are (are_reversed c.args.loops) (program_marks c.args.marked) (splits_nothing c.args.marked) ps (procedure_of h) c.in_ok-table.table told c.in_ok-all.all.items
-          (c.in_ok-all.ensures.names ∙ ap (λ z. z ++ flagged c.in_ok-table.table.found.adjointed c.in_ok-table.table.adjoints.items) own);
+          ∙ all_are (are_reversed c.args.loops) (program_marks c.args.marked) ps (procedure_of h) t told c.in_ok-all.all.items
+          (c.in_ok-all.ensures.names ∙ ap (λ z. z ++ made_flagged t.found.adjointed t.found.paired t.names.adjoints.items t.names.forths.items t.names.backs.items) own);
     }
 
 pub emitted-requires-clause-flow : goal.emitted-requires-clause-flow

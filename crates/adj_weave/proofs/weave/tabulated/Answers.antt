@@ -1,16 +1,13 @@
-use Rattle.std.proofs.Common.{◌≡◌, ◌<◌, ◌++◌, ◌∙◌, [], ℕ, List, length, map, ap, sym, subst, codes}
-use Rattle.std.specs.Prelude.{flat_map}
+use Rattle.std.proofs.Common.{◌≡◌, ◌<◌, ◌∙◌, length, map, ap, sym, subst}
 use Rattle.adj_tree.specs.Code.{Procedure}
 use Rattle.adj_tree.specs.View.{procedure_of, procedures_of}
 use Rattle.def_meaning.specs.Apart.{AreApart}
 use Rattle.def_sweep.specs.Declared.{unit_name, unit_at}
-use Rattle.def_sweep.specs.Program.{has_adjoint, is_carried_with}
-use Rattle.adj_sets.specs.Sets.{all_added}
+use Rattle.def_sweep.specs.Program.{has_adjoint, has_pair, is_carried_with}
 use Rattle.adj_sweep.specs.HelperSteps.{are_reversed}
 use Rattle.adj_weave.specs.Marked.{program_marks}
-use Rattle.def_sweep.specs.Names.{named_list}
 use Rattle.adj_weave_units.specs.Calls.{numbers_from}
-use Rattle.adj_weave_units.proofs.Ordered.{first_numbers, made_list, all_joined}
+use Rattle.adj_weave_units.proofs.Ordered.{first_numbers}
 use Rattle.adj_weave.proofs.weave.tabulated.Goals as goal
 
 pub found_by_names-requires : goal.found_by_names-requires
@@ -26,18 +23,16 @@ pub returns : goal.returns
 returns c =
     let ps = procedures_of c.args.checked.now.program in
     let m = program_marks c.args.marked.now in
-    let facts = c.units_of-units.ensures.facts in
     let moved : map procedure_of c.units_of-units.result.now ≡ ps = ap (map procedure_of) c.units_of-units.ensures.units in
     let apart : AreApart (map unit_name ps) = subst AreApart c.requires.names c.requires.apart in
-    let joined = λ (xss : List (List (List ℕ))). flat_map (λ (xs : List (List ℕ)). xs) xss in
-    let source = c.in_ok-source.ensures.names ∙ (λ i. all_added [] (c.requires.names i ++ joined (facts.variables i))) ∙ ap (λ xs. all_added [] (map unit_name ps ++ xs)) (all_joined ps) in
     record {
       table = λ h at.
           let there = ap (unit_at c.args.head) moved ∙ at in
           record {
-            adjoints = c.in_ok-adjoints.ensures.names ∙ (λ i. named_list (codes "_B") (source i) (moved i)) ∙ made_list (codes "_B") ps apart;
+            names = c.in_ok-made.ensures.made;
             numbers = c.in_ok-numbers.ensures.numbers ∙ ap (numbers_from 0) moved ∙ first_numbers ps apart;
             adjointed = c.in_ok-found.ensures.adjointed h there ∙ ap (λ qs. map (λ (u : Procedure). has_adjoint m qs h u.name) qs) moved;
+            paired = c.in_ok-found.ensures.paired h there ∙ ap (λ qs. map (λ (u : Procedure). has_pair m qs h u.name) qs) moved;
             carried = c.in_ok-found.ensures.carried h there ∙ ap (λ qs. map (λ (u : Procedure). is_carried_with (are_reversed c.args.loops) m qs h u.name) qs) moved;
           };
     }

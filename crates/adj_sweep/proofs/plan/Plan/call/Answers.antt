@@ -1,49 +1,35 @@
-use Rattle.std.proofs.Common.{◌≡◌, ◌∙◌, refl, sym, ap, subst}
+use Rattle.std.proofs.Common.{◌∙◌, refl, sym, subst}
+use Rattle.std.proofs.lemmas.Result.{IfOk-weaker}
 use Rattle.adj_tree.specs.Code.{call}
-use Rattle.adj_tree.specs.View.{terms_of, code_of}
-use Rattle.def_meaning.specs.Append.{◌+++◌, one}
-use Rattle.def_meaning.specs.Rename.{rename}
-use Rattle.def_sweep.specs.Marked.{code_if}
-use Rattle.def_sweep.specs.Plan.{names_of}
-use Rattle.def_sweep.specs.Rows.{pushes, pops}
-use Rattle.adj_sweep_assignment.specs.View.{marks_of}
-use Rattle.adj_sweep_assignment.proofs.Unsplit.{never_split}
-use Rattle.adj_sweep.specs.declared.actuals.Group.TheVariants.{Save, Snapshot}
-use Rattle.adj_sweep.specs.Actuals.{paired, is_in, chosen, all_with_shadows}
+use Rattle.adj_tree.specs.View.{terms_of}
 use Rattle.adj_sweep.specs.Callees.{Knows}
 use Rattle.adj_sweep.specs.Plans.{naming_in, plan_of}
-use Rattle.adj_sweep.specs.Swept.{in_order}
 use Rattle.adj_sweep.proofs.Acts.{skipped, if_false}
-use Rattle.adj_sweep.proofs.CallActs.{call_written}
 use Rattle.adj_sweep.proofs.plan.Plan.call.Goals as goal
 
 pub returns-then-not-emitted : goal.returns-then-not-emitted
 returns-then-not-emitted c = record {
   sweeps = λ sc callees reads d k.
       skipped sc (naming_in c.args.self.now) (plan_of c.args.self.now callees) d c.args.line (call c.args.name.now (terms_of c.args.actuals.now)) c.args.sweeps _
-      (if_false _ _ (sym c.emitted.ensures.emitted ∙ c.if-not-emitted.true)) (if_false _ _ (sym c.emitted.ensures.emitted ∙ c.if-not-emitted.true)) c.in_ok-after.ensures.next refl refl;
+      (if_false _ _ (sym c.emitted.ensures.emitted ∙ c.if-not-emitted.true)) (if_false _ _ (sym c.emitted.ensures.emitted ∙ c.if-not-emitted.true)) c.in_ok-next.ensures.next refl refl;
 }
 
-pub returns : goal.returns
-returns c =
-    let r = naming_in c.args.self.now in
-    let m = marks_of c.args.self.now.marks.now in
-    let line = c.args.line in
-    let old = c.args.sweeps in
-    let saved = m.saved old.number in
-    let names = names_of (terms_of c.args.actuals.now) in
-    let k = c.find-callee.result.now in
-    let made : c.as_slice-given.result.now ≡ paired k.dummies.items names = c.as_slice-given.ensures.value ∙ c.in_ok-made.ensures.actuals ∙ ap (λ ds. paired ds names) c.as_slice-dummies.ensures.value in
-    let s1 = in_order (code_of c.in_ok-saved.saved) in
-    let t = code_of c.in_ok-popped.popped in
-    record {
-      sweeps = λ sc callees reads d h.
-          let p = plan_of c.args.self.now callees in
-          call_written sc r (λ y. refl) p d line c.args.name.now c.args.actuals.now old _ k (reads c.args.name.now) (subst (λ z. Knows z (callees c.args.name.now) (reads c.args.name.now)) (sym c.find-callee.ensures.found) (h c.args.name.now))
-          (sym c.emitted.ensures.emitted ∙ c.if-not-emitted.false) (never_split c.args.self.now.marks.now old.number) c.in_ok-after.ensures.next s1 (in_order (code_of c.in_ok-pushed.pushed)) t
-          (c.in_ok-saved.ensures.pushed callees ∙ ap (λ z. in_order (code_of old.forward) +++ pushes p line (chosen (is_in saved Save) z)) made)
-          (c.in_ok-pushed.ensures.pushed callees ∙ ap (λ z. s1 +++ code_if (m.adjointed old.number) (pushes p line (chosen (is_in saved Snapshot) z))) made)
-          c.in_ok-forward.ensures.kept
-          (c.in_ok-popped.ensures.popped callees ∙ ap (λ z. pops p line (chosen (is_in saved Save) z) +++ code_of old.backward) made)
-          (c.in_ok-backward.ensures.called callees ∙ ap (λ z. code_if (m.adjointed old.number) (pops p line (chosen (is_in saved Snapshot) z) +++ rename r (one line (call k.adjoint (all_with_shadows z)))) +++ t) made);
-    }
+pub returns-then-split : goal.returns-then-split
+returns-then-split c = record {
+  sweeps = IfOk-weaker c.split_call.result _ _
+      (λ s f sc callees reads d k.
+      let name = c.args.name.now in
+      f sc callees name (reads name) d (sym c.emitted.ensures.emitted ∙ c.if-not-emitted.false) (sym c.split.ensures.split ∙ c.if-split.true)
+      (subst (λ z. Knows z (callees name) (reads name)) (sym c.find-callee.ensures.found) (k name)))
+      c.split_call.ensures.sweeps;
+}
+
+pub returns-else-split : goal.returns-else-split
+returns-else-split c = record {
+  sweeps = IfOk-weaker c.whole_call.result _ _
+      (λ s f sc callees reads d k.
+      let name = c.args.name.now in
+      f sc callees (reads name) d (sym c.emitted.ensures.emitted ∙ c.if-not-emitted.false) (sym c.split.ensures.split ∙ c.if-split.false)
+      (subst (λ z. Knows z (callees name) (reads name)) (sym c.find-callee.ensures.found) (k name)))
+      c.whole_call.ensures.sweeps;
+}
