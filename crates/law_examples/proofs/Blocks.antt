@@ -1,7 +1,7 @@
 -- What texts with blocks, lines of all sorts and declarations are is computed.
 use Rattle.std.proofs.Common.{refl}
 use Rattle.def_text.specs.Data.{text_len, data_line}
-use Rattle.law_examples.specs.Blocks.{Branches, LoopBlocks, Directives, Lines, Declared, Likenesses, DataPlaces, Labels, Keywords}
+use Rattle.law_examples.specs.Blocks.{Branches, LoopBlocks, Directives, SplitCalls, Lines, Declared, Likenesses, DataPlaces, Labels, Keywords}
 use Rattle.law_examples.proofs.Computing.{reading}
 
 pub branches : Branches
@@ -15,6 +15,10 @@ loop_blocks = (refl, refl, refl, refl, refl, refl)
 pub directives : Directives
 unfolding reading text_len data_line
 directives = (refl, refl, refl, refl, refl, refl, refl)
+
+pub split_calls : SplitCalls
+unfolding reading text_len data_line
+split_calls = ((refl, refl), (refl, refl), (refl, refl))
 
 pub lines : Lines
 unfolding reading text_len data_line

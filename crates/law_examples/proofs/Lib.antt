@@ -14,6 +14,7 @@ pub mod Printed
 pub mod ReadingCases
 pub mod RunCases
 pub mod Sharing
+pub mod SplitShape
 pub mod Words
 pub mod Schedules
 pub mod ReversalRefusing

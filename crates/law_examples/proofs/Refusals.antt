@@ -1,6 +1,6 @@
 -- The first faults of texts are computed.
 use Rattle.std.proofs.Common.{refl}
-use Rattle.law_examples.specs.Refusals.{InitialLines, Characters, WrongDirectives, Unknown, Malformed, Misplaced, Unended, TooLarge, LongNames, WrongExponents}
+use Rattle.law_examples.specs.Refusals.{InitialLines, Characters, WrongDirectives, WrongSplits, Unknown, Malformed, Misplaced, Unended, TooLarge, LongNames, WrongExponents}
 use Rattle.law_examples.proofs.Computing.{reading}
 
 pub initial_lines : InitialLines
@@ -14,6 +14,10 @@ characters = (refl, refl, refl, refl, refl, refl, refl, refl, refl, refl, refl, 
 pub wrong_directives : WrongDirectives
 unfolding reading
 wrong_directives = (refl, refl, refl, refl, refl, refl, refl, refl, refl, refl, refl, refl, refl, refl, refl, refl, refl, refl)
+
+pub wrong_splits : WrongSplits
+unfolding reading
+wrong_splits = (refl, refl, refl, refl, refl, refl, refl, refl, refl, refl, refl, refl, refl, refl, refl, refl)
 
 pub unknown : Unknown
 unfolding reading

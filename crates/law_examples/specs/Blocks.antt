@@ -1,11 +1,14 @@
 -- Texts with blocks, declarations and lines of all sorts, and the programs that they are.
-use Rattle.std.specs.Prelude.{◌≡◌, ℕ, pos, true, false, List, [], ◌∷◌, ◌++◌, codes, None}
-use Rattle.adj_tree.specs.Code.{plain, plus, greater, bin, none, Mark, unmarked, with_count, count_from, Act, assign, choose, loop, during, Code, stop, step, fixed, given, Declaration}
+use Rattle.std.specs.Prelude.{◌≡◌, ℕ, pos, true, false, List, [], ◌∷◌, ◌++◌, codes, None, Ok}
+use Rattle.adj_tree.specs.Code.{plain, plus, greater, bin, none, Mark, unmarked, with_count, count_from, Act, assign, choose, loop, during, call, Code, stop, step, fixed, given, Declaration}
 use Rattle.def_text.specs.Block.{is_open, innermost}
 use Rattle.adj_tree.specs.declared.stmt.Mark.TheVariants.{Plain}
 use Rattle.def_text.specs.Data.{data_of}
+use Rattle.def_text.specs.Limits.{limits_of}
 use Rattle.def_text.specs.Lined.{directive_before}
-use Rattle.def_text.specs.Stated.{keyword_len, IsCovered}
+use Rattle.def_text.specs.Refused.{◌>>=◌}
+use Rattle.def_text.specs.Splits.{split_lines}
+use Rattle.def_text.specs.Stated.{keyword_len, statements_of, IsCovered}
 use Rattle.def_text.specs.declared.stated.Kind.TheVariants.{Do, BlockIf, LogicalIf, Assign, Continue, Return, End, EndIf, EndDo, Else, ImplicitNone, ElseIf, DoWhile, Subroutine, Integer, Call, Common}
 use Rattle.def_text.specs.declared.mode.Mode.TheVariants.{Source}
 use Rattle.law_examples.specs.Texts.{text, return_code, use_of, literal, one, name_a, name_i, name_n, name_p, name_x, name_y, bare, above, Is}
@@ -59,6 +62,19 @@ Directives =
     × Marked (codes "C$AD BINOMIAL-CKP n_1 ") (count_from (plain (codes "N_1")))
     × Body (codes "C$AD BINOMIAL-CKP 7" ∷ codes "* a comment" ∷ codes "      DO I=1,10" ∷ codes "      X=1" ∷ codes "      END DO" ∷ []) (step 4 (to_ten 1 name_i (sets 5 1 stop) (with_count 7)) stop)
     × Body (codes "C$AD BINOMIAL-CKP 7" ∷ codes "      DO 10 I=1,10" ∷ codes "      X=1" ∷ codes " 10   CONTINUE" ∷ []) (step 3 (to_ten 1 name_i (sets 4 1 stop) (with_count 7)) stop)
+
+abbrev pub calls_q : ℕ → Code → Code
+calls_q line rest = step line (call (codes "Q") none) rest
+
+-- the statements from line 2 on are the body of P, and those on these lines are split
+abbrev pub Splits : List (List ℕ) → Code → List ℕ → Type 0
+Splits lines body found = Body lines body × ((statements_of (limits_of Source) (text (codes "      SUBROUTINE P" ∷ lines ++ codes "      END" ∷ [])) >>= λ ss. Ok (split_lines ss)) ≡ Ok found)
+
+abbrev pub SplitCalls : Type 0
+SplitCalls =
+    Splits (codes "C$AD NOCHECKPOINT" ∷ codes "      CALL Q" ∷ []) (calls_q 3 stop) (3 ∷ [])
+    × Splits (codes "c$aD  NoCheckpoint  " ∷ codes "* a comment" ∷ codes "      CALL Q" ∷ codes "      CALL Q" ∷ codes "C$AD NOCHECKPOINT" ∷ codes " 10   CALL" ∷ codes "     1Q" ∷ []) (calls_q 4 (calls_q 5 (calls_q 7 stop))) (4 ∷ 7 ∷ [])
+    × Splits (codes "      CALL Q" ∷ codes "C$AD BINOMIAL-CKP 7" ∷ codes "      DO I=1,10" ∷ codes "      CALL Q" ∷ codes "      END DO" ∷ []) (calls_q 2 (step 4 (to_ten 1 name_i (calls_q 5 stop) (with_count 7)) stop)) []
 
 -- ---- lines
 
@@ -130,6 +146,6 @@ Keywords =
     (keyword_len Do [] ≡ 2) × (keyword_len BlockIf [] ≡ 2) × (keyword_len LogicalIf [] ≡ 2) × (keyword_len Assign [] ≡ 0) × (keyword_len Continue [] ≡ 8) × (keyword_len Return [] ≡ 6) × (keyword_len End [] ≡ 3) × (keyword_len EndIf [] ≡ 5)
     × (keyword_len EndDo [] ≡ 5) × (keyword_len Else [] ≡ 4) × (keyword_len ImplicitNone [] ≡ 12) × (keyword_len ElseIf [] ≡ 6) × (keyword_len DoWhile [] ≡ 7) × (keyword_len Subroutine [] ≡ 10) × (keyword_len Call [] ≡ 4) × (keyword_len Common [] ≡ 6)
     × (keyword_len Integer (codes "INTEGERX") ≡ 7) × (keyword_len Integer (codes "INTEGER*8X") ≡ 9)
-    × IsCovered (record { line = 1; label = 0; mark = Plain; mark_line = 0; kind = Else; text = codes "ELSE"; tokens = [] })
-    × IsCovered (record { line = 1; label = 0; mark = Plain; mark_line = 0; kind = BlockIf; text = codes "IFTHEN"; tokens = [] })
-    × (directive_before None ≡ record { mark = Plain; line = 0 })
+    × IsCovered (record { line = 1; label = 0; mark = Plain; split = false; mark_line = 0; kind = Else; text = codes "ELSE"; tokens = [] })
+    × IsCovered (record { line = 1; label = 0; mark = Plain; split = false; mark_line = 0; kind = BlockIf; text = codes "IFTHEN"; tokens = [] })
+    × (directive_before None ≡ record { advice = record { mark = Plain; split = false }; line = 0 })

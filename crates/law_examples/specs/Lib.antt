@@ -13,6 +13,7 @@ pub mod Printed
 pub mod Reading
 pub mod Runs
 pub mod Sharing
+pub mod SplitShape
 pub mod Words
 pub mod Schedules
 pub mod ReversalSources

@@ -1,5 +1,5 @@
 -- Limits: texts at the limits of their mode, and one past each.
-use Rattle.std.specs.Prelude.{◌≡◌, ℕ, zero, suc, List, [], ◌∷◌, ◌++◌, codes, Some, None}
+use Rattle.std.specs.Prelude.{◌≡◌, ℕ, zero, suc, false, List, [], ◌∷◌, ◌++◌, codes, Some, None}
 use Rattle.adj_tree.specs.Code.{plain, Term, neg, none, assign, choose, Code, stop, step}
 use Rattle.adj_tree.specs.declared.stmt.Mark.TheVariants.{Plain}
 use Rattle.def_text.specs.Form.{go_on}
@@ -66,4 +66,4 @@ Bounds =
     × (no_limits ≡ record { continuations = None; name = None })
     × (next_number 7 ≡ 8) × (next_number 4294967294 ≡ 4294967295) × (next_number 4294967295 ≡ 4294967295)
     × ((start Source).room ≡ 200000)
-    × ((behind (start Source) (record { line = 3; label = 0; mark = Plain; mark_line = 0; kind = Continue; text = codes "CONTINUE"; tokens = [] }) go_on).room ≡ 199999)
+    × ((behind (start Source) (record { line = 3; label = 0; mark = Plain; split = false; mark_line = 0; kind = Continue; text = codes "CONTINUE"; tokens = [] }) go_on).room ≡ 199999)

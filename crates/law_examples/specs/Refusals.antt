@@ -72,6 +72,26 @@ WrongDirectives =
     × Refused Source (within [] ++ codes "C$AD BINOMIAL-CKP 7" ∷ codes "$DATA" ∷ []) 20 3
     × Wrong (codes "C$AD BINOMIAL-CKP 7" ∷ codes " A    DO I=1,2" ∷ []) 1 3
 
+-- directives that split a call
+abbrev pub WrongSplits : Type 0
+WrongSplits =
+    Wrong (codes "C$AD NOCHECKPOINT 2" ∷ codes "      CALL Q" ∷ []) 20 2
+    × Wrong (codes "C$AD NOCHECKPOINTS" ∷ codes "      CALL Q" ∷ []) 20 2
+    × Wrong (codes "C$AD NOCHECKPOIN" ∷ codes "      CALL Q" ∷ []) 20 2
+    × Wrong (codes "C$AD NO CHECKPOINT" ∷ codes "      CALL Q" ∷ []) 20 2
+    × Wrong (codes "C$ADNOCHECKPOINT" ∷ codes "      CALL Q" ∷ []) 20 2
+    × Wrong ((codes "C$AD" ++ tab ∷ codes "NOCHECKPOINT") ∷ codes "      CALL Q" ∷ []) 20 2
+    × Wrong (codes "C$AD NOCHECKPOINT" ∷ codes "C$AD NOCHECKPOINT" ∷ codes "      CALL Q" ∷ []) 20 2
+    × Wrong (codes "      X=1" ∷ codes "C$AD NOCHECKPOINT" ∷ codes "     1+1" ∷ []) 20 3
+    × Refused Source (within [] ++ codes "C$AD NOCHECKPOINT" ∷ []) 20 3
+    × Wrong (codes "C$AD NOCHECKPOINT" ∷ codes "      X=1" ∷ []) 20 2
+    × Wrong (codes "C$AD NOCHECKPOINT" ∷ codes "      CALLQ=1" ∷ []) 20 2
+    × Wrong (codes "C$AD NOCHECKPOINT" ∷ codes "      IF(X.GT.1)CALL Q" ∷ []) 20 2
+    × Wrong (codes "C$AD NOCHECKPOINT" ∷ codes "      DO I=1,2" ∷ codes "      END DO" ∷ []) 20 2
+    × Wrong (codes "C$AD BINOMIAL-CKP 7" ∷ codes "      CALL Q" ∷ []) 20 2
+    × Wrong (codes "C$AD NOCHECKPOINT" ∷ codes "      CALL Q(" ∷ []) 4 3
+    × Wrong (codes "C$AD NOCHECKPOINT" ∷ codes "      CALL 1" ∷ []) 4 3
+
 -- ---- statements
 
 -- nothing known

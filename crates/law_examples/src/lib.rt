@@ -21,4 +21,4 @@ pub use texts::{
     block_cases, depth_cases, expression_cases, first_faults, limit_cases, line_refusals,
     printed_cases, statement_cases, statement_refusals, tree_refusals,
 };
-pub use worked::{open_marks, worked_programs, worked_runs, wrong_adjoints};
+pub use worked::{open_marks, split_shape, worked_programs, worked_runs, wrong_adjoints};

@@ -1,12 +1,12 @@
 //! Texts, with the programs that they are and with the first fault of those that are refused.
 
 ghost use Rattle.law_examples.specs.Texts.{Orders, Exponents, Applications, Conditions, Calls, OtherActuals, LoopForms};
-ghost use Rattle.law_examples.specs.Blocks.{Branches, LoopBlocks, Directives, Lines, Declared, Likenesses, DataPlaces, Labels, Keywords};
+ghost use Rattle.law_examples.specs.Blocks.{Branches, LoopBlocks, Directives, SplitCalls, Lines, Declared, Likenesses, DataPlaces, Labels, Keywords};
 ghost use Rattle.law_examples.specs.Depths.{Depths, Counts, TestDepths, Flaws, DeepStatements};
 ghost use Rattle.law_examples.specs.Limits.{Bounds};
 ghost use Rattle.law_examples.specs.FirstFaults.{Passes, OfLines, OfTexts, OfStatements};
 ghost use Rattle.law_examples.specs.Printed.{Terms, Tests, Programs, Literals, WrittenBounds, WrittenTerms, CutLines};
-ghost use Rattle.law_examples.specs.Refusals.{InitialLines, Characters, WrongDirectives, Unknown, Malformed, Misplaced, Unended, TooLarge, LongNames, WrongExponents};
+ghost use Rattle.law_examples.specs.Refusals.{InitialLines, Characters, WrongDirectives, WrongSplits, Unknown, Malformed, Misplaced, Unended, TooLarge, LongNames, WrongExponents};
 
 /// What expressions and conditions are.
 pub fn expression_cases()
@@ -28,6 +28,7 @@ pub fn block_cases()
     ensures branches { Branches }
     ensures loop_blocks { LoopBlocks }
     ensures directives { Directives }
+    ensures split_calls { SplitCalls }
     ensures lines { Lines }
     ensures declared { Declared }
     ensures likenesses { Likenesses }
@@ -41,6 +42,7 @@ pub fn line_refusals()
     ensures initial_lines { InitialLines }
     ensures characters { Characters }
     ensures directives { WrongDirectives }
+    ensures splits { WrongSplits }
 {}
 
 /// Texts with a statement that is none.

@@ -73,3 +73,11 @@ pub fn open_marks()
     ensures call_unsaved { Fail unsaved_call (raising ∷ calls_after ∷ []) 1 (true ∷ false ∷ []) (false ∷ true ∷ []) }
     ensures branch_left_out { Fail left_out (branch ∷ []) 0 (true ∷ false ∷ []) (false ∷ true ∷ []) }
 {}
+
+ghost use Rattle.law_examples.specs.SplitShape.{SplitUnits, CheckpointedIsRefused};
+
+/// A split call: its unit has a forward and a backward unit. A program that treats it as checkpointed hasn't the shape that the marks say.
+pub fn split_shape()
+    ensures units { SplitUnits }
+    ensures checkpointed { CheckpointedIsRefused }
+{}

@@ -20,12 +20,12 @@ use Rattle.def_text.specs.declared.stated.Kind.{Kind}
 use Rattle.def_text.specs.declared.stated.Kind.TheVariants.{Assign, Call}
 use Rattle.def_text.specs.declared.stated.Stated.{Stated}
 use Rattle.adj_parse.specs.Order.{breaks_loop, is_end, is_heading, opens_block}
-use Rattle.adj_parse.specs.Trees.{bounds_of, State, is_marked, is_do, has_stray_mark, is_astray, checked, behind, follow, trees_from}
+use Rattle.adj_parse.specs.Trees.{bounds_of, State, has_stray_mark, is_astray, checked, behind, follow, trees_from}
 use Rattle.adj_parse.specs.Unit.{Current, followed, open_blocks, is_misplaced}
 use Rattle.adj_parse.proofs.Machine.{picked, kind_of, stands, units_of, run}
 use Rattle.adj_parse.proofs.Truths.{and_false}
 use Rattle.adj_parse_statement.specs.Said.{said}
-use Rattle.adj_parse.proofs.Followed.{not_both, units_done}
+use Rattle.adj_parse.proofs.Followed.{not_both, never_stray, units_done}
 use Rattle.law_limits.specs.Kept.{shallow}
 use Rattle.law_limits.proofs.Keeping.{units_in, form_keeps, all_keep}
 use Rattle.law_limits.proofs.FittingTerms.{fitting}
@@ -58,26 +58,6 @@ same_kind F e forms.ReadsForm.closed = refl
 same_kind F e forms.ReadsForm.returned = refl
 same_kind F e forms.ReadsForm.ended = refl
 
--- a directive stands before a DO alone
-led_form : {mark : Mark} {kind : Kind} {lexemes : List Lexeme} {f : Form} → ReadsForm mark kind lexemes f → (is_marked mark && not (is_do kind)) ≡ false
-led_form (forms.ReadsForm.heading d) = refl
-led_form forms.ReadsForm.implicit = refl
-led_form (forms.ReadsForm.declaration d) = refl
-led_form (forms.ReadsForm.shared d) = refl
-led_form (forms.ReadsForm.assigned d) = refl
-led_form (forms.ReadsForm.calls d) = refl
-led_form (forms.ReadsForm.guarded d g) = refl
-led_form (forms.ReadsForm.begins {mark = mark} d) = and_false (is_marked mark)
-led_form (forms.ReadsForm.repeats d) = refl
-led_form forms.ReadsForm.finished = refl
-led_form forms.ReadsForm.continued = refl
-led_form (forms.ReadsForm.tests d) = refl
-led_form forms.ReadsForm.turns = refl
-led_form (forms.ReadsForm.tests_again d) = refl
-led_form forms.ReadsForm.closed = refl
-led_form forms.ReadsForm.returned = refl
-led_form forms.ReadsForm.ended = refl
-
 -- behind the last statement no unit is open, so it is END
 closes_end : (done : List Shared) (current : Option Current) (n l : ℕ) (f : Form) → stands (kind_of f) l current ≡ true → (ps : List Shared) → units_of (followed done current n l f).done (followed done current n l f).current ≡ Some ps → is_end (kind_of f) ≡ true
 closes_end done (Some c) n l forms.ends s ps h = refl
@@ -100,7 +80,7 @@ module _ (laws : Laws) where
   pub chain_goes : {ts : List Stated} {ss : List Statement} → ReadsAll ts ss → (s : State) (ps : List Shared) → run s.units ss ≡ Some ps → IsNested 45 (units_in ps) → all_keep (shallow 120) ss ≡ true → all_keep fitting ss ≡ true → Goes ps (trees_from Run s ts)
   unfolding trees_from follow run
   chain_goes texts.ReadsAll.none s ps h n deep fit = inl (ap Ok (units_done s.units.done s.units.current ps h))
-  chain_goes (texts.ReadsAll.more {s = t} {ss = ts} {f = f} {ts = ss} d rest) s ps h n deep fit =
+  chain_goes (texts.ReadsAll.more {s = t} {ss = ts} {f = f} {ts = ss} split d rest) s ps h n deep fit =
       let lexemes = lexemes_of t.text t.tokens in
       let step = picked (stands (kind_of f) t.label s.units.current) (run (followed s.units.done s.units.current t.line t.label f) ss) h in
       let placed : stands t.kind t.label s.units.current ≡ true = same_kind (λ k. stands k t.label s.units.current) (calls_place t.label s.units.current) d ∙ step.0 in
@@ -114,7 +94,7 @@ module _ (laws : Laws) where
       let later = run_nested 45 ss (followed s.units.done s.units.current t.line t.label f) ps step.1 n in
       let opens : (opens_block t.kind && nat_le 45 (length (open_blocks s.units.current))) ≡ false =
       ap (λ b. b && nat_le 45 (length (open_blocks s.units.current))) (same_kind opens_block refl d) ∙ too_nested 45 many s.units.done s.units.current t.line t.label f step.0 later in
-      elim (goes s t (length ts) (said 120 (mark_of t.mark) t.kind lexemes) f says (led_form d) right place.1 opens) [
+      elim (goes s t (length ts) (said 120 (mark_of t.mark) t.kind lexemes) f says (never_stray t split d) right place.1 opens) [
         | inl e ↦ subst (Goes ps) (sym (ap (λ r. (r >>= λ g. Ok (behind s t g)) >>= λ next. trees_from Run next ts) e)) (chain_goes rest (behind s t f) ps step.1 n here.1 fits.1)
         | inr (line, e) ↦ inr (line, ap (λ r. (r >>= λ g. Ok (behind s t g)) >>= λ next. trees_from Run next ts) e)
       ]
@@ -124,4 +104,4 @@ module _ (laws : Laws) where
           let placed = (picked (stands (kind_of f) t.label s.units.current) (run (followed s.units.done s.units.current t.line t.label f) ss) h).0 in
           let ended : is_end t.kind ≡ true = same_kind is_end refl d ∙ closes_end s.units.done s.units.current t.line t.label f placed ps g in
           rw ended refl
-      last_ends (texts.ReadsAll.more {ss = us} e r) g = rw (eqb-suc-zero (length us)) refl
+      last_ends (texts.ReadsAll.more {ss = us} own e r) g = rw (eqb-suc-zero (length us)) refl

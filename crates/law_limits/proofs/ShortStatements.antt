@@ -141,7 +141,7 @@ led forms.ReadsForm.ended = inl refl
 -- statements have no name that is too long where what they say has none
 pub long_forms : (n : ℕ) → 17 ≤ n → {ss : List Stated} {ts : List Statement} → ReadsAll ss ts → All IsCovered ss → none_long n ss ≡ all_keep (short_names n) ts
 long_forms n wide texts.ReadsAll.none h = refl
-long_forms n wide (texts.ReadsAll.more {s = s} {ss = ss} {f = f} d rest) h =
+long_forms n wide (texts.ReadsAll.more {s = s} {ss = ss} {f = f} split d rest) h =
     let inside : length s.text - ending_len s.kind ≤ length s.text = omega arith in
     let covered : IsCovered s = all_first IsCovered s ss h in
     let lexemes = tokens_short n s.text (keyword_len s.kind s.text) (length s.text - ending_len s.kind) s.tokens covered inside in
@@ -151,7 +151,7 @@ long_forms n wide (texts.ReadsAll.more {s = s} {ss = ss} {f = f} d rest) h =
 -- ---- statements
 
 abbrev record_of : Lines → Kind → List Token → Stated
-record_of l kind ts = record { line = l.line; label = l.label; mark = l.mark; mark_line = l.mark_line; kind = kind; text = l.text; tokens = ts }
+record_of l kind ts = record { line = l.line; label = l.label; mark = l.advice.mark; split = l.advice.split; mark_line = l.mark_line; kind = kind; text = l.text; tokens = ts }
 
 -- within a limit none is too long
 module _ (continuations : Option ℕ) (n : ℕ) where
@@ -195,7 +195,7 @@ module _ (continuations : Option ℕ) (n : ℕ) where
   tokens_kept : (l : Lines) (kind : Kind) (o : Option (List Token)) (s : Stated) → with_tokens no_limits l kind o ≡ Ok s → is_long n s ≡ false → with_tokens bound l kind o ≡ Ok s
   tokens_kept l kind None s e h = absurd cc
   tokens_kept l kind (Some ts) s e h =
-      elim (list_any (is_too_long None) ts || is_marked_long None kind l.mark) as (λ b. (if b then refused 6 l.line else Ok (record_of l kind ts)) ≡ Ok s → with_tokens bound l kind (Some ts) ≡ Ok s) [
+      elim (list_any (is_too_long None) ts || is_marked_long None kind l.advice.mark) as (λ b. (if b then refused 6 l.line else Ok (record_of l kind ts)) ≡ Ok s → with_tokens bound l kind (Some ts) ≡ Ok s) [
         | true ↦ λ g. absurd cc
         | false ↦ λ g. let q : record_of l kind ts ≡ s = cc in ap (λ b. if b then refused 6 l.line else Ok (record_of l kind ts)) (ap (is_long n) q ∙ h) ∙ ap Ok q
       ] e

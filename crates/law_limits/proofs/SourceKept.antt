@@ -238,7 +238,7 @@ two_acts forms.ReadsForm.ended = omega arith
 
 twice : {stated : List Stated} {ss : List Statement} → ReadsAll stated ss → all_acts ss ≤ 2 * length stated
 twice texts.ReadsAll.none = omega arith
-twice (texts.ReadsAll.more {ss = ss} {f = f} d rest) = let p = two_acts d in let q = twice rest in omega arith
+twice (texts.ReadsAll.more {ss = ss} {f = f} split d rest) = let p = two_acts d in let q = twice rest in omega arith
 
 -- what a text in Source mode gives, with its COMMON statements
 pub record IsSourceShared (units : List Shared) : Type 0 where

@@ -5,4 +5,5 @@ pub mod ReadLines
 pub mod OwnNames
 pub mod ByMarks
 pub mod Unscheduled
+pub mod MarkedCalls
 pub mod Planned

@@ -4,7 +4,6 @@ use Rattle.std.specs.Prelude.{◌==◌, ◌&&◌, ◌||◌, not, option_to_list}
 use Rattle.std.specs.List.{list_all, list_any}
 use Rattle.adj_tree.specs.Code.{Mark as loop_mark, Terms, none, Runtime, Act, Code, Declaration}
 use Rattle.adj_tree.specs.declared.fault.Refusal.{Refusal}
-use Rattle.adj_tree.specs.declared.stmt.Mark.{Mark}
 use Rattle.adj_tree.proofs.Names.{nat_same}
 use Rattle.adj_tree.specs.Common.{Common, Shared}
 use Rattle.def_text.specs.Block as blocks
@@ -14,7 +13,7 @@ use Rattle.def_text.specs.Class.{class_of, is_matched}
 use Rattle.def_text.specs.Form as forms
 use Rattle.def_text.specs.Form.{Form, subroutine, implicit_none, integers, common, simple, logical, opens_do, opens_while, end_do, go_on, opens_if, otherwise, otherwise_if, end_if, leaves, ends, Statement, at, ReadsForm}
 use Rattle.def_text.specs.Limits.{no_limits}
-use Rattle.def_text.specs.Line.{in_front, cut_lines, without_cr, next_number, is_data, column, is_directive, is_comment, is_continuation, body, label_of, operand_of}
+use Rattle.def_text.specs.Line.{in_front, cut_lines, without_cr, next_number, is_data, column, is_directive, is_comment, is_continuation, body, label_of, advice_of}
 use Rattle.def_text.specs.Lined.{Lines, Directive, Pass, start, flushed, with_directive, with_initial, has_room, with_continuation, behind_directive, with_line, ended, pass_over, lines_of}
 use Rattle.def_text.specs.Reads as texts
 use Rattle.def_text.specs.Reads.{ReadsAll}
@@ -25,6 +24,7 @@ use Rattle.def_text.specs.Statement.{ReadsAssignment, ReadsCall, ReadsGuarded, r
 use Rattle.def_text.specs.Unit as units
 use Rattle.def_text.specs.Unit.{ReadsImplicit, ReadsDeclarations, ReadsEnd, ReadsUnit, ReadsUnits}
 use Rattle.def_text.specs.Lexeme.{Lexeme}
+use Rattle.def_text.specs.declared.stated.Advice.{Advice}
 use Rattle.def_text.specs.declared.stated.Kind.{Kind}
 use Rattle.def_text.specs.declared.stated.Stated.{Stated}
 use Rattle.def_text.specs.declared.token.Token.{Token}
@@ -101,7 +101,7 @@ spreads_behind : (n : ℕ) (o : Option Directive) (r : Result Pass Refusal) → 
 spreads_behind n None r h = h
 spreads_behind n (Some d) r h = spreads_err n _
 
-spreads_directive : (p : Pass) (n : ℕ) (o : Option Mark) → AreSpread n (flushed p) → Spreads (n + 1) (with_directive p n o)
+spreads_directive : (p : Pass) (n : ℕ) (o : Option Advice) → AreSpread n (flushed p) → Spreads (n + 1) (with_directive p n o)
 spreads_directive p n None h = spreads_err (n + 1) _
 spreads_directive p n (Some m) h =
     spreads_ok (n + 1) _ (λ t.
@@ -125,7 +125,7 @@ spreads_continuation p n l (Some s) h =
 spreads_line : (p : Pass) (n : ℕ) (l : List ℕ) → AreSpread n (flushed p) → Spreads (n + 1) (with_line no_limits p n l)
 unfolding with_line
 spreads_line p n l h =
-    spreads_if (n + 1) (is_directive l) _ _ (spreads_behind (n + 1) p.pending (with_directive p n (operand_of l)) (spreads_directive p n (operand_of l) h))
+    spreads_if (n + 1) (is_directive l) _ _ (spreads_behind (n + 1) p.pending (with_directive p n (advice_of l)) (spreads_directive p n (advice_of l) h))
     (spreads_if (n + 1) (is_comment l) _ _ (spreads_ok (n + 1) p (spread_on n (flushed p) h))
     (spreads_if (n + 1) (is_continuation l) _ _ (spreads_behind (n + 1) p.pending (with_continuation no_limits p n l p.current) (spreads_continuation p n l p.current h))
     (spreads_initial p n l (label_of l) h)))
@@ -176,12 +176,12 @@ classed t [] = 0
 classed t (s ∷ ss) = once (t == s.line) + classed t ss
 
 abbrev record_of : Lines → Kind → List Token → Stated
-record_of l kind ts = record { line = l.line; label = l.label; mark = l.mark; mark_line = l.mark_line; kind = kind; text = l.text; tokens = ts }
+record_of l kind ts = record { line = l.line; label = l.label; mark = l.advice.mark; split = l.advice.split; mark_line = l.mark_line; kind = kind; text = l.text; tokens = ts }
 
 tokens_line : (l : Lines) (kind : Kind) (o : Option (List Token)) (s : Stated) → with_tokens no_limits l kind o ≡ Ok s → s.line ≡ l.line
 tokens_line l kind None s e = absurd cc
 tokens_line l kind (Some ts) s e =
-    elim (list_any (is_too_long None) ts || is_marked_long None kind l.mark) as (λ b. (if b then refused 6 l.line else Ok (record_of l kind ts)) ≡ Ok s → s.line ≡ l.line) [
+    elim (list_any (is_too_long None) ts || is_marked_long None kind l.advice.mark) as (λ b. (if b then refused 6 l.line else Ok (record_of l kind ts)) ≡ Ok s → s.line ≡ l.line) [
       | true ↦ λ g. absurd cc
       | false ↦ λ g. let q : record_of l kind ts ≡ s = cc in ap (λ (z : Stated). z.line) (sym q)
     ] e
@@ -277,7 +277,7 @@ module _ (t : ℕ) where
 
   all_seen : {ss : List Stated} {ts : List Statement} → ReadsAll ss ts → seen ts ≤ classed t ss
   all_seen texts.ReadsAll.none = omega arith
-  all_seen (texts.ReadsAll.more {s = s} d rest) = let here = form_own s.line d in let later = all_seen rest in omega arith
+  all_seen (texts.ReadsAll.more {s = s} split d rest) = let here = form_own s.line d in let later = all_seen rest in omega arith
 
   -- ---- and so do the loops of units
 

@@ -6,7 +6,7 @@
 //! `planned_law`, and where it reverses marked loops by schedules `reversed_law`, and `unscheduled_law` for programs without any.
 #![tactic(auto)]
 
-ghost use Rattle.law_planned.specs.Planned.{KernelIsUnmarked, KernelKeepsLines, ReadHaveLinesApart, PlannedIsAdjoint, PlannedSpends, PlannedIsWritten, PlannedIsSound, ReversedIsAdjoint, ReversedIsWritten, ReversedIsSound, ReversedHaveOwnNames, ReversedKernelSpends, SchedulesAddNothing, ReversedIsPlanned, NoneIsReversed, ReversedSpends};
+ghost use Rattle.law_planned.specs.Planned.{KernelIsUnmarked, KernelKeepsLines, ReadHaveLinesApart, PlannedIsAdjoint, PlannedSpends, PlannedIsWritten, PlannedIsSound, ReversedIsAdjoint, ReversedIsWritten, ReversedIsSound, ReversedHaveOwnNames, ReversedKernelSpends, ReversedKernelSpendsSplit, SchedulesAddNothing, ReversedIsPlanned, NoneIsReversed, ReversedSpends};
 
 /// In the kernel of a program without marked loops none is marked.
 pub fn unmarked_law()
@@ -38,6 +38,7 @@ pub fn reversed_law()
     ensures adjoint { ReversedIsAdjoint }
     ensures own_names { ReversedHaveOwnNames }
     ensures spends { ReversedKernelSpends }
+    ensures spends_split { ReversedKernelSpendsSplit }
     ensures written { ReversedIsWritten }
     ensures sound { ReversedIsSound }
 {}

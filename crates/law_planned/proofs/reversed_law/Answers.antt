@@ -1,4 +1,4 @@
-use Rattle.law_planned.proofs.Planned.{is_reversed, kernel_spends, reversed_written, reversed_sound}
+use Rattle.law_planned.proofs.Planned.{is_reversed, kernel_spends, kernel_spends_split, reversed_written, reversed_sound}
 use Rattle.law_planned.proofs.OwnNames.{own_names}
 use Rattle.law_planned.proofs.reversed_law.Goals as goal
 
@@ -16,3 +16,6 @@ returns-clause-own_names c = own_names
 
 pub returns-clause-spends : goal.returns-clause-spends
 returns-clause-spends c = kernel_spends
+
+pub returns-clause-spends_split : goal.returns-clause-spends_split
+returns-clause-spends_split c = kernel_spends_split

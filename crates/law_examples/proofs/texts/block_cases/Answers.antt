@@ -1,4 +1,4 @@
-use Rattle.law_examples.proofs.Blocks.{branches, loop_blocks, directives, lines, declared, likenesses, data_places, labels, keywords}
+use Rattle.law_examples.proofs.Blocks.{branches, loop_blocks, directives, split_calls, lines, declared, likenesses, data_places, labels, keywords}
 use Rattle.law_examples.proofs.texts.block_cases.Goals as goal
 
 pub returns-clause-branches : goal.returns-clause-branches
@@ -9,6 +9,9 @@ returns-clause-loop_blocks c = loop_blocks
 
 pub returns-clause-directives : goal.returns-clause-directives
 returns-clause-directives c = directives
+
+pub returns-clause-split_calls : goal.returns-clause-split_calls
+returns-clause-split_calls c = split_calls
 
 pub returns-clause-lines : goal.returns-clause-lines
 returns-clause-lines c = lines
