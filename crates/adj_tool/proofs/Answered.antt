@@ -14,7 +14,7 @@ use Rattle.adj_tool.specs.Check.{AnswersTextCheck, AnswersSizedCheck, AnswersChe
 use Rattle.adj_tool.specs.Arguments.{Request}
 use Rattle.adj_tool.specs.declared.task.Wanted.{Wanted}
 
-pub answered : {E : Type 0} (w : Wanted) (r : Request) (bytes : List ℕ) → length bytes ≤ most_bytes → (found : Result (List Procedure) Refusal) → IsProgram Source bytes found → (result : Result Answer E) → IfOk result (λ a. AnswersText w r found (answer_of a)) → IfOk result (λ a. AnswersWanted w r bytes (answer_of a))
+pub answered : {E : Type 0} (w : Wanted) (r : Request) (bytes : List ℕ) → length bytes ≤ most_bytes → (found : Result (List Procedure) Refusal) → IsProgram Source bytes found → (result : Result Answer E) → IfOk result (λ a. AnswersText w r bytes found (answer_of a)) → IfOk result (λ a. AnswersWanted w r bytes (answer_of a))
 answered w r bytes l found is (Ok a) h = subst (λ b. AnswersSized b w r bytes (answer_of a)) (sym (le-ltb most_bytes (length bytes) l)) (record { found = found; is = is; such = h })
 answered w r bytes l found is (Err e) h = tt
 

@@ -7,6 +7,7 @@ use Rattle.adj_tree.specs.Code.{Procedure}
 use Rattle.adj_tree.specs.Lines.{unlined}
 use Rattle.adj_tree.specs.declared.marks.Head.{Head}
 use Rattle.def_common.specs.Source.{ReadsLowered, KeepsRuns}
+use Rattle.def_text.specs.Reads.{ReadsSplits}
 use Rattle.def_text.specs.Text.{text_of}
 use Rattle.def_text.specs.Written.{IsWritten}
 use Rattle.def_text.specs.declared.mode.Mode.TheVariants.{Source, Run}
@@ -20,21 +21,15 @@ use Rattle.def_sweep.specs.MarkedAdjoint.{shadow_flags}
 use Rattle.def_sweep.specs.Marking.{ProgramMarks}
 use Rattle.law_emitted.specs.Shadowed.{AllHaveShadows}
 use Rattle.def_kernel.specs.Kernel.{EachUnit}
-use Rattle.def_kernel.specs.Weights.{WeighsAtMost}
 use Rattle.def_kernel.specs.Stepped.{kernel_of}
 use Rattle.law_kernel.specs.Sound.{IsAccepted}
 use Rattle.def_adjoint.specs.Adjoint.{IsAdjointOf}
-use Rattle.law_emitted.proofs.Calling.{unsplit_may}
 use Rattle.law_emitted.proofs.Kernels.{kernel_checked, found_name, becomes}
-use Rattle.law_shape.proofs.Accepted.{accepted_has_shape}
 use Rattle.law_analysed.proofs.Lending.{exact_shadows}
 use Rattle.def_text.specs.OrTooMany.{OrTooMany}
 use Rattle.law_limits.specs.Limits.{EmittedIsRunnableWith}
-use Rattle.def_planned.specs.Planned.{kernel_problem, lines_by, reversed_for, marks_by}
+use Rattle.def_planned.specs.Planned.{split_problem, lines_by, reversed_for, marks_by}
 use Rattle.law_planned.proofs.Planned as planned
-use Rattle.def_adjoint.specs.Calls.{CallsWithin}
-use Rattle.def_adjoint.specs.KernelSpends.{KernelSpendsAtMost}
-use Rattle.law_cost.proofs.KernelSpending.{round_bound_is_kept}
 use Rattle.law_planned.proofs.OwnNames.{own_names}
 use Rattle.law_analysed.specs.MarkedLines.{program_lines, AreLinesApart}
 use Rattle.adj_tool_answer.specs.Answer.{Answer}
@@ -57,13 +52,13 @@ use Rattle.adj_tool.specs.Headline.{IsUnit, flags_of}
 use Rattle.adj_tool.specs.Planned.{IsKnownFor, AreExact}
 use Rattle.adj_tool.proofs.Heads.{head_there, few_variables, fits_widest}
 
-module _ (ps : List Procedure) (name : List ℕ) (h : Head) (accepted : IsAccepted ps) (qs : List Procedure) (adjoint : List ℕ) (shadowed : List Bool)
-    (known : IsKnownFor (kernel_of ps) (record { unit = unit_number (kernel_of ps) name; vars = h.vars; outvars = h.outvars }) qs adjoint shadowed) where
+module _ (lines : List ℕ) (ps : List Procedure) (name : List ℕ) (h : Head) (accepted : IsAccepted ps) (qs : List Procedure) (adjoint : List ℕ) (shadowed : List Bool)
+    (known : IsKnownFor lines (kernel_of ps) (record { unit = unit_number (kernel_of ps) name; vars = h.vars; outvars = h.outvars }) qs adjoint shadowed) where
   abbrev m : ProgramMarks
-  m = marks_by ps known.emitted.activity known.emitted.liveness known.emitted.saved known.emitted.held
+  m = marks_by lines ps known.emitted.activity known.emitted.liveness known.emitted.saved known.emitted.held
 
   -- it is what exact analyses have emitted
-  pub exact : AreExact ps name h m
+  pub exact : AreExact lines ps name h m
   exact = record { activity = known.emitted.activity; liveness = known.emitted.liveness; saved = known.emitted.saved; held = known.emitted.held; analysed = known.emitted.analysed; are = refl }
 
   -- its text reads as it, or has too many statements
@@ -71,18 +66,18 @@ module _ (ps : List Procedure) (name : List ℕ) (h : Head) (accepted : IsAccept
   reads_as runnable fits bytes given =
       let x = known.emitted in
       let few : EachUnit (λ v. length (variables v) ≤ most_numbered) (kernel_of ps) = few_variables (kernel_of ps) (fits_widest (kernel_of ps) fits) in
-      let shadows : AllHaveShadows m (kernel_of ps) (kernel_of ps) = exact_shadows run_rules (kernel_problem ps name h.vars h.outvars) (kernel_checked ps accepted) x.activity x.analysed.active m refl (λ n. refl) in
-      subst (λ z. OrTooMany (λ found. unlined found ≡ unlined z) (program_of Run (text_of z))) (sym x.emitted) (runnable bytes ps given accepted few m shadows (unsplit_may true m (λ i. refl) (kernel_of ps) (kernel_of ps)) (unit_number (kernel_of ps) name) h.vars h.outvars)
+      let shadows : AllHaveShadows m (kernel_of ps) (kernel_of ps) = exact_shadows run_rules (split_problem lines ps name h.vars h.outvars) (kernel_checked ps accepted) x.activity x.analysed.active m refl (λ n. refl) in
+      subst (λ z. OrTooMany (λ found. unlined found ≡ unlined z) (program_of Run (text_of z))) (sym x.emitted) (runnable bytes ps given accepted few m shadows (planned.splits ps accepted lines true m refl) (unit_number (kernel_of ps) name) h.vars h.outvars)
 
   module _ (apart : AreLinesApart (program_lines ps)) (u : Procedure) (found : find_unit ps name ≡ Some u) where
     pub adjoins : (others : List Procedure) → unlined qs ≡ unlined others → IsAdjointOf (lines_by ps m) m ps name h.vars h.outvars others
     adjoins others same =
         let x = known.emitted in
-        planned.is_reversed ps accepted apart name u found h.vars h.outvars x.activity x.liveness x.saved x.held x.analysed others (ap unlined (sym x.emitted) ∙ same)
+        planned.is_reversed ps accepted apart name u found h.vars h.outvars lines x.activity x.liveness x.saved x.held x.analysed others (ap unlined (sym x.emitted) ∙ same)
 
     -- and so are its looks and what its run takes
-    pub runs_for : (others : List Procedure) → unlined qs ≡ unlined others → RunsAdjoint m ps name h.vars h.outvars others
-    runs_for others same = let x = known.emitted in runs_adjoint ps accepted apart name u found h.vars h.outvars x.activity x.liveness x.saved x.held x.analysed others (ap unlined (sym x.emitted) ∙ same)
+    pub runs_for : (others : List Procedure) → unlined qs ≡ unlined others → RunsAdjoint lines m ps name h.vars h.outvars others
+    runs_for others same = let x = known.emitted in runs_adjoint ps accepted apart name u found h.vars h.outvars lines x.activity x.liveness x.saved x.held x.analysed others (ap unlined (sym x.emitted) ∙ same)
 
     -- the shadows of the head are those of what it becomes
     pub shadows_are : (v : Procedure) → find_unit ps name ≡ Some v → shadowed ≡ shadow_flags (m.shadowed name) v.dummies
@@ -97,9 +92,9 @@ module _ (ps : List Procedure) (name : List ℕ) (h : Head) (accepted : IsAccept
         let x = known.emitted in
         record {
           runnable = record {
-            written = subst IsWritten (sym x.emitted) (planned.reversed_written ps accepted name h.vars h.outvars x.activity x.liveness x.saved x.held x.analysed);
+            written = subst IsWritten (sym x.emitted) (planned.reversed_written ps accepted name h.vars h.outvars lines x.activity x.liveness x.saved x.held x.analysed);
             reads = reads_as runnable fits bytes given;
-            sound = λ others same. planned.reversed_sound ps accepted name h.vars h.outvars x.activity x.liveness x.saved x.held x.analysed others (ap unlined (sym x.emitted) ∙ same);
+            sound = λ others same. planned.reversed_sound ps accepted name h.vars h.outvars lines x.activity x.liveness x.saved x.held x.analysed others (ap unlined (sym x.emitted) ∙ same);
           };
           lines = lines_by ps m;
           own_names = own_names ps accepted m;
@@ -121,7 +116,7 @@ module _ (ps : List Procedure) (name : List ℕ) (h : Head) (accepted : IsAccept
       pub adjoint_there : find_unit (read_back qs) adjoint ≡ Some back.adjoint
       adjoint_there = ap (find_unit (read_back qs)) (known.named back.kernel (numbered (kernel_of ps) name back.kernel back.becomes)) ∙ back.is_there
 
-      abbrev pub are_sides : ProgramTold → AreSides ps name h sides
+      abbrev pub are_sides : ProgramTold → AreSides lines ps name h sides
       are_sides told = record {
         source = refl;
         is_head = found;
@@ -183,38 +178,38 @@ module _ (ps : List Procedure) (name : List ℕ) (vars outvars : List (List ℕ)
 
 -- ---- the answer to data
 
-module _ (r : Asked) (vars outvars : List (List ℕ)) (ps : List Procedure) (accepted : IsAccepted ps) (clean : IsSound run_rules ps) (apart : AreLinesApart (program_lines ps)) (sound : first_head_fault ps r.head vars outvars ≡ None) (h : Head) (is : h ≡ head_of ps r.head vars outvars)
-    (qs : List Procedure) (adjoint : List ℕ) (shadowed : List Bool) (known : IsKnownFor (kernel_of ps) (record { unit = unit_number (kernel_of ps) r.head; vars = h.vars; outvars = h.outvars }) qs adjoint shadowed) (runnable : IsRunnable qs) (told : ProgramTold) where
+module _ (r : Asked) (vars outvars : List (List ℕ)) (lines : List ℕ) (ps : List Procedure) (accepted : IsAccepted ps) (clean : IsSound run_rules ps) (apart : AreLinesApart (program_lines ps)) (sound : first_head_fault ps r.head vars outvars ≡ None) (h : Head) (is : h ≡ head_of ps r.head vars outvars)
+    (qs : List Procedure) (adjoint : List ℕ) (shadowed : List Bool) (known : IsKnownFor lines (kernel_of ps) (record { unit = unit_number (kernel_of ps) r.head; vars = h.vars; outvars = h.outvars }) qs adjoint shadowed) (runnable : IsRunnable qs) (told : ProgramTold) where
   abbrev head : IsUnit ps r.head
   head = there ps r.head vars outvars sound h is
 
   abbrev both : Sides
-  both = sides ps r.head h accepted qs adjoint shadowed known apart head.unit head.found runnable
+  both = sides lines ps r.head h accepted qs adjoint shadowed known apart head.unit head.found runnable
 
-  abbrev are_both : AreSides ps r.head h both
-  are_both = are_sides ps r.head h accepted qs adjoint shadowed known apart head.unit head.found runnable told
+  abbrev are_both : AreSides lines ps r.head h both
+  are_both = are_sides lines ps r.head h accepted qs adjoint shadowed known apart head.unit head.found runnable told
 
   both_adjoint : AreAdjoint both
   both_adjoint =
       let at = unit_at ps r.head vars outvars sound h is in
-      are_adjoint ps r.head h accepted qs adjoint shadowed known apart head.unit head.found runnable (sized ps accepted.written clean h.unit head.unit at)
+      are_adjoint lines ps r.head h accepted qs adjoint shadowed known apart head.unit head.found runnable (sized ps accepted.written clean h.unit head.unit at)
       (many_vars ps r.head vars outvars sound h is head.unit at) (many_outvars ps r.head vars outvars sound h is head.unit at)
 
-  runs_both : RunsAdjoint are_both.marks ps r.head h.vars h.outvars (read_back qs)
-  runs_both = runs_for ps r.head h accepted qs adjoint shadowed known apart head.unit head.found (read_back qs) (alike_read qs runnable)
+  runs_both : RunsAdjoint lines are_both.marks ps r.head h.vars h.outvars (read_back qs)
+  runs_both = runs_for lines ps r.head h accepted qs adjoint shadowed known apart head.unit head.found (read_back qs) (alike_read qs runnable)
 
-  pub is_checked : CheckTraps → (bytes : List ℕ) (a : Answer) → a ≡ check_answer r both bytes → IsChecked ps h r bytes a
+  pub is_checked : CheckTraps → (bytes : List ℕ) (a : Answer) → a ≡ check_answer r both bytes → IsChecked lines ps h r bytes a
   is_checked law bytes a same = record { sides = both; are_sides = are_both; runs = runs_both; is = same; traps = law r both both_adjoint bytes }
 
   -- by the names that were asked for
-  abbrev are_asked : AreSides ps r.head (head_of ps r.head vars outvars) both
+  abbrev are_asked : AreSides lines ps r.head (head_of ps r.head vars outvars) both
   are_asked = record {
     source = refl;
     is_head = head.found;
     vars = ap (λ (z : Head). z.vars) is;
     outvars = ap (λ (z : Head). z.outvars) is;
     marks = are_both.marks;
-    exact = subst (λ z. AreExact ps r.head z are_both.marks) is are_both.exact;
+    exact = subst (λ z. AreExact lines ps r.head z are_both.marks) is are_both.exact;
     emitted = subst (λ (z : Head). IsReadBack (reversed_for ps r.head z.vars z.outvars are_both.marks) both.emitted) is are_both.emitted;
     kernel = are_both.kernel;
     becomes = are_both.becomes;
@@ -222,17 +217,19 @@ module _ (r : Asked) (vars outvars : List (List ℕ)) (ps : List Procedure) (acc
     shadows = are_both.shadows;
   }
 
-  runs_asked : RunsAdjoint are_both.marks ps r.head (flags_of vars head.unit.dummies) (flags_of outvars head.unit.dummies) (read_back qs)
+  runs_asked : RunsAdjoint lines are_both.marks ps r.head (flags_of vars head.unit.dummies) (flags_of outvars head.unit.dummies) (read_back qs)
   runs_asked =
-      subst (λ v. RunsAdjoint are_both.marks ps r.head v (flags_of outvars head.unit.dummies) (read_back qs)) (vars_are ps r.head vars outvars sound h is)
-      (subst (λ v. RunsAdjoint are_both.marks ps r.head h.vars v (read_back qs)) (outvars_are ps r.head vars outvars sound h is) runs_both)
+      subst (λ v. RunsAdjoint lines are_both.marks ps r.head v (flags_of outvars head.unit.dummies) (read_back qs)) (vars_are ps r.head vars outvars sound h is)
+      (subst (λ v. RunsAdjoint lines are_both.marks ps r.head h.vars v (read_back qs)) (outvars_are ps r.head vars outvars sound h is) runs_both)
 
-  pub is_compared : CheckAgrees → (bytes : List ℕ) (reads : ReadsLowered bytes ps) → KeepsRuns reads.shared → (a : Answer) → a ≡ check_answer r both bytes → IsCompared r vars outvars bytes a
+  pub is_compared : CheckAgrees → (bytes : List ℕ) (reads : ReadsLowered bytes ps) → KeepsRuns reads.shared → ReadsSplits bytes lines → (a : Answer) → a ≡ check_answer r both bytes → IsCompared r vars outvars bytes a
   unfolding both_adjoint are_adjoint
-  is_compared law bytes reads keeps a same = λ done. record {
+  is_compared law bytes reads keeps marked a same = λ done. record {
     source = ps;
     reads = reads;
     keeps = keeps;
+    splits = lines;
+    reads_splits = marked;
     sides = both;
     are_sides = are_asked;
     runs = runs_asked;

@@ -1,6 +1,6 @@
 -- Where nothing has a fault and each run is done, the answer is done.
 use Rattle.std.proofs.Common.{◌≡◌, ℕ, List, length, sym, ap, subst, ◌∙◌, Result, Ok, Some, None}
-use Rattle.std.specs.Prelude.{drop, Option, true, false}
+use Rattle.std.specs.Prelude.{drop, true, false}
 use Rattle.std.proofs.lemmas.Bool.{le-ltb}
 use Rattle.adj_tree.specs.Code.{Procedure}
 use Rattle.adj_tree.specs.declared.fault.Refusal.{Refusal}
@@ -16,7 +16,6 @@ use Rattle.adj_tool_answer.specs.Laws.{ProgramOnly}
 use Rattle.adj_tool_answer.specs.Programs.{IsProgram}
 use Rattle.adj_tool_answer.specs.Endings.{Asked}
 use Rattle.adj_tool_check.specs.Checking.{Sides, Given, after, compared, dual_run, adjoint_run, adjoints_in, tangents_in, runs_answer, faulty_or, given_of}
-use Rattle.def_jacobian.specs.Patterns.{pattern_run}
 use Rattle.adj_tool_jacobian.specs.Jacobian as jacobian
 use Rattle.adj_tool_jacobian.specs.Jacobian.{TellsDerivative, task_of}
 use Rattle.adj_tool_run.specs.Running as running
@@ -28,10 +27,10 @@ use Rattle.adj_tool.specs.declared.task.Wanted.{Wanted}
 use Rattle.adj_tool.specs.declared.task.Wanted.TheVariants as wanted
 
 -- the answer that is given for an accepted program
-given_is_done : (w : Wanted) (ps : List Procedure) (name : List ℕ) (h : Head) (a : Answer) → IsGiven w ps name h a → a.status ≡ 0
-given_is_done wanted.Adjoint ps name h a g = ap (λ (z : Answer). z.status) g.text
-given_is_done wanted.Tangent ps name h a g = ap (λ (z : Answer). z.status) g.text
-given_is_done wanted.Plan ps name h a g = ap (λ (z : Answer). z.status) g.text
+given_is_done : (w : Wanted) (lines : List ℕ) (ps : List Procedure) (name : List ℕ) (h : Head) (a : Answer) → IsGiven w lines ps name h a → a.status ≡ 0
+given_is_done wanted.Adjoint lines ps name h a g = ap (λ (z : Answer). z.status) g.text
+given_is_done wanted.Tangent lines ps name h a g = ap (λ (z : Answer). z.status) g.text
+given_is_done wanted.Plan lines ps name h a g = ap (λ (z : Answer). z.status) g.text
 
 -- three runs that are done
 runs_are_done : (r : Asked) (p : Sides) (d : Given) → AreDone r p d → (runs_answer r p d).status ≡ 0
@@ -51,11 +50,12 @@ module _ (only : ProgramOnly) where
       let ps = s.source in
       let hd = head_of ps r.head r.vars r.outvars in
       let sized : AnswersSized false w r bytes a = subst (λ b. AnswersSized b w r bytes a) (le-ltb most_bytes (length bytes) s.few) h in
-      let such : AnswersText w r (Ok ps) a = subst (λ f. AnswersText w r f a) (same_found Source bytes sized.found sized.is ps s.program) sized.such in
-      let checked : AnswersChecked None w r ps a = subst (λ o. AnswersChecked o w r ps a) s.sound such in
-      let headed : AnswersHeaded None w r ps a = subst (λ o. AnswersHeaded o w r ps a) t.head checked in
-      let fitted : AnswersFitted true w ps r.head hd a = subst (λ b. AnswersFitted b w ps r.head hd a) t.fits headed in
-      given_is_done w ps r.head hd a fitted
+      let such : AnswersText w r bytes (Ok ps) a = subst (λ f. AnswersText w r bytes f a) (same_found Source bytes sized.found sized.is ps s.program) sized.such in
+      let lines = such.lines in
+      let checked : AnswersChecked None w r lines ps a = subst (λ o. AnswersChecked o w r lines ps a) s.sound such.such in
+      let headed : AnswersHeaded None w r lines ps a = subst (λ o. AnswersHeaded o w r lines ps a) t.head checked in
+      let fitted : AnswersFitted true w lines ps r.head hd a = subst (λ b. AnswersFitted b w lines ps r.head hd a) t.fits headed in
+      given_is_done w lines ps r.head hd a fitted
 
   pub run_is_done : RunIsDone
   run_is_done r bytes a t u is_head none done h =
@@ -92,9 +92,10 @@ module _ (only : ProgramOnly) where
       let hd = head_of ps r.head vars outvars in
       let sized : AnswersSizedCheck false r vars outvars bytes a = subst (λ b. AnswersSizedCheck b r vars outvars bytes a) (le-ltb most_bytes (length bytes) s.few) h in
       let such : AnswersTextCheck r vars outvars bytes (Ok ps) a = subst (λ f. AnswersTextCheck r vars outvars bytes f a) (same_found Source bytes sized.found sized.is ps s.program) sized.such in
-      let checked : AnswersSoundCheck r vars outvars bytes ps a = subst (λ o. Unrefused o (AnswersSoundCheck r vars outvars bytes ps a) a) s.sound such in
-      let headed : AnswersAcceptedCheck r bytes ps hd a = subst (λ o. Unrefused o (AnswersAcceptedCheck r bytes ps hd a) a) t.head checked in
-      let is : IsChecked ps hd r bytes a = subst (λ b. Fitted b (IsChecked ps hd r bytes a) a) t.fits headed in
+      let lines = such.lines in
+      let checked : AnswersSoundCheck r vars outvars bytes lines ps a = subst (λ o. Unrefused o (AnswersSoundCheck r vars outvars bytes lines ps a) a) s.sound such.such in
+      let headed : AnswersAcceptedCheck r bytes lines ps hd a = subst (λ o. Unrefused o (AnswersAcceptedCheck r bytes lines ps hd a) a) t.head checked in
+      let is : IsChecked lines ps hd r bytes a = subst (λ b. Fitted b (IsChecked lines ps hd r bytes a) a) t.fits headed in
       let p = is.sides in
-      let held = runs p is.are_sides in
+      let held = runs lines such.reads p is.are_sides in
       ap (λ (z : Answer). z.status) (is.is ∙ ap (λ o. faulty_or o (runs_answer r p (given_of p bytes))) held.0) ∙ runs_are_done r p (given_of p bytes) held.1

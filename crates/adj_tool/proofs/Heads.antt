@@ -10,6 +10,7 @@ use Rattle.adj_tree.specs.declared.unit.Program.{Program}
 use Rattle.adj_tree.specs.declared.marks.Head.{Head}
 use Rattle.def_meaning.specs.Written.{find_unit}
 use Rattle.def_common.specs.Source.{ReadsLowered, KeepsRuns}
+use Rattle.def_text.specs.Reads.{ReadsSplits}
 use Rattle.def_text.specs.ReadsAs.{ReadsAs}
 use Rattle.def_text.specs.Written as texts
 use Rattle.def_text.specs.Text.{text_of}
@@ -20,7 +21,7 @@ use Rattle.law_text.proofs.TextUnlined.{one_text}
 use Rattle.def_names.specs.Fault.{source_rules, run_rules, first_of}
 use Rattle.def_names.specs.Check.{IsSound}
 use Rattle.def_names.specs.HeadFaults.{first_head_fault, faults_of_head, flags_found, unit_number, head_of}
-use Rattle.def_sweep.specs.Marking.{ProgramMarks, SplitsNothing}
+use Rattle.def_sweep.specs.Marking.{ProgramMarks}
 use Rattle.def_names.specs.Variables.{variables}
 use Rattle.adj_symbols.specs.Numbers.{Fits, widest}
 use Rattle.adj_symbols.specs.Checked.{Known, AreFacts}
@@ -32,11 +33,9 @@ use Rattle.adj_tool.proofs.LoweredLines.{lowered_lines}
 use Rattle.law_emitted.specs.Shadowed.{AllHaveShadows}
 use Rattle.def_kernel.specs.Form.{IsKernel}
 use Rattle.def_kernel.specs.Kernel.{EachUnit}
-use Rattle.def_kernel.specs.Weights.{WeighsAtMost}
 use Rattle.def_kernel.specs.Stepped.{kernel_of}
 use Rattle.law_kernel.specs.Sound.{IsAccepted}
-use Rattle.def_adjoint.specs.Adjoint.{IsAdjointOf}
-use Rattle.law_emitted.proofs.Calling.{unsplit_may}
+use Rattle.law_emitted.specs.Splits.{AllMaySplit}
 use Rattle.law_emitted.proofs.Kernels.{kernel_checked, head_within}
 use Rattle.law_analysed.proofs.Lending.{exact_shadows}
 use Rattle.def_text.specs.OrTooMany.{OrTooMany}
@@ -49,15 +48,8 @@ use Rattle.law_tangent_carried.specs.Limits.{TangentIsRunnable}
 use Rattle.law_tangent_carried.proofs.Written.{tangent_is_written}
 use Rattle.law_tangent_carried.proofs.SoundTexts.{tangent_is_sound}
 use Rattle.law_tangent_carried.proofs.Weighing.{accepted_by_weight}
-use Rattle.def_planned.specs.Planned.{kernel_problem, lines_by, reversed_for, marks_by}
+use Rattle.def_planned.specs.Planned.{kernel_problem, split_problem, reversed_for, marks_by}
 use Rattle.law_planned.proofs.Planned as planned
-use Rattle.def_adjoint.specs.Calls.{CallsWithin}
-use Rattle.def_adjoint.specs.KernelSpends.{KernelSpendsAtMost}
-use Rattle.law_cost.proofs.KernelSpending.{round_bound_is_kept}
-use Rattle.law_planned.proofs.OwnNames.{own_names}
-use Rattle.def_adjoint.specs.KernelShape.{HasKernelShape}
-use Rattle.def_adjoint.specs.Spends.{SpendsAtMost}
-use Rattle.law_shape.proofs.Accepted.{accepted_has_shape}
 use Rattle.adj_tool.specs.Planned.{IsEmittedFor, AreExact, IsTangentEmitted, IsTextFor}
 use Rattle.adj_tool.specs.declared.task.Wanted.{Wanted}
 use Rattle.adj_tool.specs.declared.task.Wanted.TheVariants as wanted
@@ -152,26 +144,28 @@ module _ (r : Request) (ps : List Procedure) (h : Head) (sound : first_head_faul
   }
 
   -- the program that the text is, is an adjoint of the text that reads as the program
-  pub head_adjoins : IsAccepted ps → EmittedIsRunnableWith true → ProgramTold → (text : List ℕ) → ReadsWritten ps r.head h text → (bytes : List ℕ) → length bytes ≤ most_bytes → ReadsLowered bytes ps → program_of Source bytes ≡ Ok ps → WritesAdjoint r bytes text
+  pub head_adjoins : IsAccepted ps → EmittedIsRunnableWith true → ProgramTold → (lines : List ℕ) (text : List ℕ) → ReadsWritten lines ps r.head h text → (bytes : List ℕ) → length bytes ≤ most_bytes → ReadsSplits bytes lines → ReadsLowered bytes ps → program_of Source bytes ≡ Ok ps → WritesAdjoint r bytes text
   unfolding rewrites
-  head_adjoins accepted runnable told text back bytes few reads given =
+  head_adjoins accepted runnable told lines text back bytes few marked reads given =
       let x = back.exact in
-      let m = marks_by ps x.activity x.liveness x.saved x.held in
+      let m = marks_by lines ps x.activity x.liveness x.saved x.held in
       let qs = reversed_for ps r.head h.vars h.outvars back.marks in
       let same : unlined (reversed_for ps r.head h.vars h.outvars m) ≡ unlined back.reads.0 = ap (λ n. unlined (reversed_for ps r.head h.vars h.outvars n)) (sym x.are) ∙ sym back.reads.2 in
       let narrow : EachUnit (λ v. length (variables v) ≤ most_numbered) (kernel_of ps) = few_variables (kernel_of ps) (fits_widest (kernel_of ps) back.fits) in
       let shadows : AllHaveShadows back.marks (kernel_of ps) (kernel_of ps) =
-      subst (λ n. AllHaveShadows n (kernel_of ps) (kernel_of ps)) (sym x.are) (exact_shadows run_rules (kernel_problem ps r.head h.vars h.outvars) (kernel_checked ps accepted) x.activity x.analysed.active m refl (λ n. refl)) in
-      let unsplit : SplitsNothing back.marks = subst SplitsNothing (sym x.are) (λ i. refl) in
-      let runs : OrTooMany (λ found. unlined found ≡ unlined qs) (program_of Run (text_of qs)) = runnable bytes ps given accepted narrow back.marks shadows (unsplit_may true back.marks unsplit (kernel_of ps) (kernel_of ps)) (unit_number (kernel_of ps) r.head) h.vars h.outvars in
+      subst (λ n. AllHaveShadows n (kernel_of ps) (kernel_of ps)) (sym x.are) (exact_shadows run_rules (split_problem lines ps r.head h.vars h.outvars) (kernel_checked ps accepted) x.activity x.analysed.active m refl (λ n. refl)) in
+      let may : AllMaySplit true back.marks (kernel_of ps) (kernel_of ps) = subst (λ n. AllMaySplit true n (kernel_of ps) (kernel_of ps)) (sym x.are) (planned.splits ps accepted lines true m refl) in
+      let runs : OrTooMany (λ found. unlined found ≡ unlined qs) (program_of Run (text_of qs)) = runnable bytes ps given accepted narrow back.marks shadows may (unit_number (kernel_of ps) r.head) h.vars h.outvars in
       record {
-        programs = rewrites qs text back.is_text back.reads (planned.reversed_sound ps accepted r.head h.vars h.outvars x.activity x.liveness x.saved x.held x.analysed back.reads.0 same) runs told bytes reads (blocks_kept source_rules Source bytes ps given accepted.sound reads);
+        programs = rewrites qs text back.is_text back.reads (planned.reversed_sound ps accepted r.head h.vars h.outvars lines x.activity x.liveness x.saved x.held x.analysed back.reads.0 same) runs told bytes reads (blocks_kept source_rules Source bytes ps given accepted.sound reads);
+        splits = lines;
+        reads_splits = marked;
         marks = back.marks;
-        exact = subst (λ z. AreExact ps r.head z back.marks) is x;
+        exact = subst (λ z. AreExact lines ps r.head z back.marks) is x;
         adjoins =
-            subst (λ n. RunsAdjoint n ps r.head (flags_of r.vars there.unit.dummies) (flags_of r.outvars there.unit.dummies) back.reads.0) (sym x.are)
-            (subst (λ v. RunsAdjoint m ps r.head v (flags_of r.outvars there.unit.dummies) back.reads.0) vars_is (subst (λ v. RunsAdjoint m ps r.head h.vars v back.reads.0) outvars_is
-            (runs_adjoint ps accepted (lines_apart bytes ps few reads) r.head there.unit there.found h.vars h.outvars x.activity x.liveness x.saved x.held x.analysed back.reads.0 same)));
+            subst (λ n. RunsAdjoint lines n ps r.head (flags_of r.vars there.unit.dummies) (flags_of r.outvars there.unit.dummies) back.reads.0) (sym x.are)
+            (subst (λ v. RunsAdjoint lines m ps r.head v (flags_of r.outvars there.unit.dummies) back.reads.0) vars_is (subst (λ v. RunsAdjoint lines m ps r.head h.vars v back.reads.0) outvars_is
+            (runs_adjoint ps accepted (lines_apart bytes ps few reads) r.head there.unit there.found h.vars h.outvars lines x.activity x.liveness x.saved x.held x.analysed back.reads.0 same)));
       }
 
   -- the program that the text is, is the tangent of the text that reads as the program
@@ -192,10 +186,10 @@ module _ (r : Request) (ps : List Procedure) (h : Head) (sound : first_head_faul
       }
 
   -- the text that was wanted is what it is to be
-  pub head_transforms : IsAccepted ps → EmittedIsRunnableWith true → TangentIsRunnable → ProgramTold → (w : Wanted) (text : List ℕ) → ReadsFor w ps r.head h text → (bytes : List ℕ) → length bytes ≤ most_bytes → ReadsLowered bytes ps → program_of Source bytes ≡ Ok ps → Writes w r bytes text
-  head_transforms accepted runnable tangent_runnable told wanted.Adjoint text back bytes few reads given = head_adjoins accepted runnable told text back bytes few reads given
-  head_transforms accepted runnable tangent_runnable told wanted.Tangent text back bytes few reads given = head_tangents accepted tangent_runnable told text back bytes reads given
-  head_transforms accepted runnable tangent_runnable told wanted.Plan text back bytes few reads given = tt
+  pub head_transforms : IsAccepted ps → EmittedIsRunnableWith true → TangentIsRunnable → ProgramTold → (w : Wanted) (lines : List ℕ) (text : List ℕ) → ReadsFor w lines ps r.head h text → (bytes : List ℕ) → length bytes ≤ most_bytes → ReadsSplits bytes lines → ReadsLowered bytes ps → program_of Source bytes ≡ Ok ps → Writes w r bytes text
+  head_transforms accepted runnable tangent_runnable told wanted.Adjoint lines text back bytes few marked reads given = head_adjoins accepted runnable told lines text back bytes few marked reads given
+  head_transforms accepted runnable tangent_runnable told wanted.Tangent lines text back bytes few marked reads given = head_tangents accepted tangent_runnable told text back bytes reads given
+  head_transforms accepted runnable tangent_runnable told wanted.Plan lines text back bytes few marked reads given = tt
 
 -- ---- the kernel as code gives it
 
@@ -216,19 +210,19 @@ module _ (ps : List Procedure) (p : Program) (lowered : procedures_of p ≡ kern
       subst (λ us. P us (record { unit = unit_number us name; vars = vars; outvars = outvars })) lowered (subst (λ k. P (procedures_of p) (record { unit = k; vars = vars; outvars = outvars })) e x)
 
 -- what is emitted is written, so that its text reads as it
-module _ (ps : List Procedure) (name : List ℕ) (h : Head) (accepted : IsAccepted ps) (qs : List Procedure) (x : IsEmittedFor (kernel_of ps) (record { unit = unit_number (kernel_of ps) name; vars = h.vars; outvars = h.outvars }) qs) where
+module _ (lines : List ℕ) (ps : List Procedure) (name : List ℕ) (h : Head) (accepted : IsAccepted ps) (qs : List Procedure) (x : IsEmittedFor lines (kernel_of ps) (record { unit = unit_number (kernel_of ps) name; vars = h.vars; outvars = h.outvars }) qs) where
   abbrev m : ProgramMarks
-  m = marks_by ps x.activity x.liveness x.saved x.held
+  m = marks_by lines ps x.activity x.liveness x.saved x.held
 
-  pub exact_marks : AreExact ps name h m
+  pub exact_marks : AreExact lines ps name h m
   exact_marks = record { activity = x.activity; liveness = x.liveness; saved = x.saved; held = x.held; analysed = x.analysed; are = refl }
 
-  pub emitted_text : (a : Answer) → a.status ≡ 0 → a.text ≡ text_of qs → IsWritten ps name h a
+  pub emitted_text : (a : Answer) → a.status ≡ 0 → a.text ≡ text_of qs → IsWritten lines ps name h a
   emitted_text a done text = record { marks = m; exact = exact_marks; text = (λ i. record { status = done i; text = (text ∙ ap text_of x.emitted) i }) }
 
-  pub emitted_reads : kernel_fits (kernel_of ps) ≡ true → (bytes : List ℕ) → bytes ≡ text_of qs → (texts.IsWritten qs → ReadsAs bytes qs) → ReadsWritten ps name h bytes
+  pub emitted_reads : kernel_fits (kernel_of ps) ≡ true → (bytes : List ℕ) → bytes ≡ text_of qs → (texts.IsWritten qs → ReadsAs bytes qs) → ReadsWritten lines ps name h bytes
   emitted_reads fits bytes text reads =
-      let written : texts.IsWritten qs = subst texts.IsWritten (sym x.emitted) (planned.reversed_written ps accepted name h.vars h.outvars x.activity x.liveness x.saved x.held x.analysed) in
+      let written : texts.IsWritten qs = subst texts.IsWritten (sym x.emitted) (planned.reversed_written ps accepted name h.vars h.outvars lines x.activity x.liveness x.saved x.held x.analysed) in
       record { fits = fits; marks = m; exact = exact_marks; is_text = text ∙ ap text_of x.emitted; reads = subst (λ z. ReadsAs bytes z) x.emitted (reads written) }
 
 -- a tangent is written, so that its text reads as it
@@ -243,17 +237,17 @@ module _ (ps : List Procedure) (name : List ℕ) (h : Head) (accepted : IsAccept
 
 -- ---- the text that is wanted
 
-module _ (ps : List Procedure) (name : List ℕ) (h : Head) (accepted : IsAccepted ps) where
+module _ (lines : List ℕ) (ps : List Procedure) (name : List ℕ) (h : Head) (accepted : IsAccepted ps) where
   -- the head in the kernel
   abbrev own : Head
   own = record { unit = unit_number (kernel_of ps) name; vars = h.vars; outvars = h.outvars }
 
-  pub text_given : (w : Wanted) (text : List ℕ) → IsTextFor w (kernel_of ps) own text → (a : Answer) → a.status ≡ 0 → a.text ≡ text → IsGiven w ps name h a
-  text_given wanted.Adjoint text x a done is = emitted_text ps name h accepted x.program x.emitted a done (is ∙ x.is_text)
+  pub text_given : (w : Wanted) (text : List ℕ) → IsTextFor w lines (kernel_of ps) own text → (a : Answer) → a.status ≡ 0 → a.text ≡ text → IsGiven w lines ps name h a
+  text_given wanted.Adjoint text x a done is = emitted_text lines ps name h accepted x.program x.emitted a done (is ∙ x.is_text)
   text_given wanted.Tangent text x a done is = tangent_text ps name h accepted x.program x.emitted a done (is ∙ x.is_text)
   text_given wanted.Plan text x a done is = record { said = x.said; takes = x.takes; tells = x.tells; text = (λ i. record { status = done i; text = (is ∙ x.is_text) i }) }
 
-  pub text_reads : kernel_fits (kernel_of ps) ≡ true → (w : Wanted) → (text : List ℕ) → IsTextFor w (kernel_of ps) own text → ReadsFor w ps name h text
-  text_reads fits wanted.Adjoint text x = emitted_reads ps name h accepted x.program x.emitted fits text x.is_text x.reads
+  pub text_reads : kernel_fits (kernel_of ps) ≡ true → (w : Wanted) → (text : List ℕ) → IsTextFor w lines (kernel_of ps) own text → ReadsFor w lines ps name h text
+  text_reads fits wanted.Adjoint text x = emitted_reads lines ps name h accepted x.program x.emitted fits text x.is_text x.reads
   text_reads fits wanted.Tangent text x = tangent_reads ps name h accepted x.program x.emitted fits text x.is_text x.reads
   text_reads fits wanted.Plan text x = tt

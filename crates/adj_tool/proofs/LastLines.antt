@@ -1,5 +1,5 @@
 -- The last lines of a text.
-use Rattle.std.proofs.Common.{◌≡◌, ◌≤◌, ℕ, suc, List, [], ◌∷◌, Bool, true, refl, ap, sym, ◌∙◌, if◌then◌else◌}
+use Rattle.std.proofs.Common.{◌≡◌, ℕ, List, [], ◌∷◌, true, refl, ap, if◌then◌else◌}
 use Rattle.std.specs.Prelude.{nat_le}
 use Rattle.adj_tool.specs.Sample.{line_ends, last_lines}
 

@@ -6,6 +6,7 @@ use Rattle.adj_tree.specs.declared.marks.Head.{Head}
 use Rattle.def_names.specs.Fault.{source_rules}
 use Rattle.def_names.specs.Check.{first_fault}
 use Rattle.def_names.specs.HeadFaults.{first_head_fault, head_of}
+use Rattle.def_text.specs.Reads.{ReadsSplits}
 use Rattle.def_text.specs.Text.{text_of}
 use Rattle.def_text.specs.declared.mode.Mode.TheVariants.{Source}
 use Rattle.adj_tool_answer.specs.Answer.{Answer, line_of_one, refused, too_long}
@@ -14,7 +15,7 @@ use Rattle.def_kernel.specs.Stepped.{kernel_of}
 use Rattle.def_sweep.specs.Marking.{ProgramMarks}
 use Rattle.adj_plan.specs.Lines.{plan_lines, TellsPlan}
 use Rattle.adj_plan.specs.declared.lines.Said.{Said}
-use Rattle.def_planned.specs.Planned.{kernel_problem, reversed_for}
+use Rattle.def_planned.specs.Planned.{kernel_problem, split_problem, reversed_for}
 use Rattle.def_names.specs.Numbers.{Vars}
 use Rattle.def_flow.specs.Carried.{IsCarrying, carried_by}
 use Rattle.def_tangent.specs.Program.{tangent_for}
@@ -56,10 +57,10 @@ abbrev pub too_large : Answer
 too_large = refused (record { code = 21; line = 0; number = most_numbered })
 
 -- the text of the adjoint of a program for the unit of a name as its head: what is emitted for the kernel by the marks of exact analyses, where
--- marked loops are reversed by schedules
-pub record IsWritten (ps : List Procedure) (name : List ℕ) (h : Head) (a : Answer) : Type 0 where
+-- marked loops are reversed by schedules, and the calls at these lines are split
+pub record IsWritten (lines : List ℕ) (ps : List Procedure) (name : List ℕ) (h : Head) (a : Answer) : Type 0 where
   pub marks : ProgramMarks
-  pub exact : AreExact ps name h marks
+  pub exact : AreExact lines ps name h marks
   pub text : a ≡ record { status = 0; text = text_of (reversed_for ps name h.vars h.outvars marks) }
 
 -- the text of the tangent of a program for the unit of a name as its head: what is emitted for the kernel by what carries a tangent, which exact analyses say
@@ -69,49 +70,56 @@ pub record IsTangentGiven (ps : List Procedure) (name : List ℕ) (h : Head) (a 
   pub exact : IsCarrying (kernel_problem ps name h.vars h.outvars) varied carried
   pub text : a ≡ record { status = 0; text = text_of (tangent_for (carried_by (kernel_of ps) carried) ps name h.vars) }
 
--- the plan of a program for the unit of a name as its head: a line for each statement of the kernel, with the letters that exact analyses say
-pub record IsPlanned (ps : List Procedure) (name : List ℕ) (h : Head) (a : Answer) : Type 0 where
+-- the plan of a program for the unit of a name as its head, where the calls at these lines are to be split: a line for each statement of the kernel,
+-- with the letters that exact analyses say
+pub record IsPlanned (lines : List ℕ) (ps : List Procedure) (name : List ℕ) (h : Head) (a : Answer) : Type 0 where
   pub said : ℕ → ℕ → Said
   pub takes : ℕ → Bool
-  pub tells : TellsPlan (kernel_problem ps name h.vars h.outvars) said takes
+  pub tells : TellsPlan (split_problem lines ps name h.vars h.outvars) said takes
   pub text : a ≡ record { status = 0; text = plan_lines said takes (kernel_of ps) }
 
-abbrev pub IsGiven : Wanted → List Procedure → List ℕ → Head → Answer → Type 0
-IsGiven wanted.Adjoint ps name h a = IsWritten ps name h a
-IsGiven wanted.Tangent ps name h a = IsTangentGiven ps name h a
-IsGiven wanted.Plan ps name h a = IsPlanned ps name h a
+abbrev pub IsGiven : Wanted → List ℕ → List Procedure → List ℕ → Head → Answer → Type 0
+IsGiven wanted.Adjoint lines ps name h a = IsWritten lines ps name h a
+IsGiven wanted.Tangent lines ps name h a = IsTangentGiven ps name h a
+IsGiven wanted.Plan lines ps name h a = IsPlanned lines ps name h a
 
 -- the answer for a program and its head, where the kernel fits, or not
-abbrev pub AnswersFitted : Bool → Wanted → List Procedure → List ℕ → Head → Answer → Type 0
-AnswersFitted true w ps name h a = IsGiven w ps name h a
-AnswersFitted false w ps name h a = a ≡ too_large
+abbrev pub AnswersFitted : Bool → Wanted → List ℕ → List Procedure → List ℕ → Head → Answer → Type 0
+AnswersFitted true w lines ps name h a = IsGiven w lines ps name h a
+AnswersFitted false w lines ps name h a = a ≡ too_large
 
 -- the answer for a program and its head
-abbrev pub AnswersAccepted : Wanted → List Procedure → List ℕ → Head → Answer → Type 0
-AnswersAccepted w ps name h a = AnswersFitted (kernel_fits (kernel_of ps)) w ps name h a
+abbrev pub AnswersAccepted : Wanted → List ℕ → List Procedure → List ℕ → Head → Answer → Type 0
+AnswersAccepted w lines ps name h a = AnswersFitted (kernel_fits (kernel_of ps)) w lines ps name h a
 
 -- the answer for a program in which names, calls and writes have no fault, where the head or a listed name has one, or none
-abbrev pub AnswersHeaded : Option Refusal → Wanted → Request → List Procedure → Answer → Type 0
-AnswersHeaded (Some e) w r ps a = a ≡ refused e
-AnswersHeaded None w r ps a = AnswersAccepted w ps r.head (head_of ps r.head r.vars r.outvars) a
+abbrev pub AnswersHeaded : Option Refusal → Wanted → Request → List ℕ → List Procedure → Answer → Type 0
+AnswersHeaded (Some e) w r lines ps a = a ≡ refused e
+AnswersHeaded None w r lines ps a = AnswersAccepted w lines ps r.head (head_of ps r.head r.vars r.outvars) a
 
 -- the answer for a program, where its names, calls and writes have a fault, or none
-abbrev pub AnswersChecked : Option Refusal → Wanted → Request → List Procedure → Answer → Type 0
-AnswersChecked (Some e) w r ps a = a ≡ refused e
-AnswersChecked None w r ps a = AnswersHeaded (first_head_fault ps r.head r.vars r.outvars) w r ps a
+abbrev pub AnswersChecked : Option Refusal → Wanted → Request → List ℕ → List Procedure → Answer → Type 0
+AnswersChecked (Some e) w r lines ps a = a ≡ refused e
+AnswersChecked None w r lines ps a = AnswersHeaded (first_head_fault ps r.head r.vars r.outvars) w r lines ps a
 
-abbrev pub AnswersProgram : Wanted → Request → List Procedure → Answer → Type 0
-AnswersProgram w r ps a = AnswersChecked (first_fault source_rules ps) w r ps a
+abbrev pub AnswersProgram : Wanted → Request → List ℕ → List Procedure → Answer → Type 0
+AnswersProgram w r lines ps a = AnswersChecked (first_fault source_rules ps) w r lines ps a
+
+-- the lines of the calls of a text that directives split are such
+pub record SplitsAre (IsSuch : List ℕ → Type 0) (bytes : List ℕ) : Type 0 where
+  pub lines : List ℕ
+  pub reads : ReadsSplits bytes lines
+  pub such : IsSuch lines
 
 -- the answer for a text that is a program, or is refused
-abbrev pub AnswersText : Wanted → Request → Result (List Procedure) Refusal → Answer → Type 0
-AnswersText w r (Err e) a = a ≡ refused e
-AnswersText w r (Ok ps) a = AnswersProgram w r ps a
+abbrev pub AnswersText : Wanted → Request → List ℕ → Result (List Procedure) Refusal → Answer → Type 0
+AnswersText w r bytes (Err e) a = a ≡ refused e
+AnswersText w r bytes (Ok ps) a = SplitsAre (λ lines. AnswersProgram w r lines ps a) bytes
 
 -- the answer for an input that is too long, or not
 abbrev pub AnswersSized : Bool → Wanted → Request → List ℕ → Answer → Type 0
 AnswersSized true w r bytes a = a ≡ too_long most_bytes
-AnswersSized false w r bytes a = TextIs Source (λ found. AnswersText w r found a) bytes
+AnswersSized false w r bytes a = TextIs Source (λ found. AnswersText w r bytes found a) bytes
 
 -- the answer of `adjoint`, of `tangent`, or of `plan`
 abbrev pub AnswersWanted : Wanted → Request → List ℕ → Answer → Type 0

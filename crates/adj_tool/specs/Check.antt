@@ -4,6 +4,7 @@ use Rattle.adj_tree.specs.Code.{Procedure}
 use Rattle.adj_tree.specs.declared.fault.Refusal.{Refusal}
 use Rattle.adj_tree.specs.declared.marks.Head.{Head}
 use Rattle.def_common.specs.Source.{ReadsLowered, KeepsRuns}
+use Rattle.def_text.specs.Reads.{ReadsSplits}
 use Rattle.def_text.specs.Text.{text_of}
 use Rattle.def_text.specs.declared.mode.Mode.TheVariants.{Source, Run}
 use Rattle.def_meaning.specs.Written.{find_unit}
@@ -23,22 +24,22 @@ use Rattle.adj_tool_check.specs.Emitted.{or_itself}
 use Rattle.adj_tool_check.specs.Agreeing.{TrapsAlone, Agrees}
 use Rattle.adj_tool.specs.Planned.{AreExact}
 use Rattle.adj_tool.specs.Fitting.{kernel_fits}
-use Rattle.adj_tool.specs.Answer.{most_bytes, too_large}
+use Rattle.adj_tool.specs.Answer.{most_bytes, too_large, SplitsAre}
 use Rattle.adj_tool.specs.Headline.{RunsAdjoint, flags_of}
 
 -- what the text of a program is in Run mode, and the program itself where its text is refused
 abbrev pub IsReadBack : List Procedure → List Procedure → Type 0
 IsReadBack qs found = TextIs Run (λ r. found ≡ or_itself qs r) (text_of qs)
 
--- A program and its head, the unit of a name, with what is emitted for its kernel by the marks of exact analyses: printed and read back, and
+-- A program and its head, the unit of a name, with what is emitted for its kernel by the marks of exact analyses, where its calls at these lines are split: printed and read back, and
 -- itself where its text has too many statements.
-pub record AreSides (ps : List Procedure) (name : List ℕ) (h : Head) (p : Sides) : Type 0 where
+pub record AreSides (lines : List ℕ) (ps : List Procedure) (name : List ℕ) (h : Head) (p : Sides) : Type 0 where
   pub source : p.source ≡ ps
   pub is_head : find_unit ps name ≡ Some p.head
   pub vars : p.vars ≡ h.vars
   pub outvars : p.outvars ≡ h.outvars
   pub marks : ProgramMarks
-  pub exact : AreExact ps name h marks
+  pub exact : AreExact lines ps name h marks
   pub emitted : IsReadBack (reversed_for ps name h.vars h.outvars marks) p.emitted
   -- what the head becomes in the kernel, which gives the name of the adjoint
   pub kernel : Procedure
@@ -47,10 +48,10 @@ pub record AreSides (ps : List Procedure) (name : List ℕ) (h : Head) (p : Side
   pub shadows : p.shadowed ≡ shadow_flags (marks.shadowed name) p.head.dummies
 
 -- the answer to the data behind a text, which tells of no trap but the head's own
-pub record IsChecked (ps : List Procedure) (h : Head) (r : Asked) (bytes : List ℕ) (a : Answer) : Type 0 where
+pub record IsChecked (lines : List ℕ) (ps : List Procedure) (h : Head) (r : Asked) (bytes : List ℕ) (a : Answer) : Type 0 where
   pub sides : Sides
-  pub are_sides : AreSides ps r.head h sides
-  pub runs : RunsAdjoint are_sides.marks ps r.head h.vars h.outvars sides.emitted
+  pub are_sides : AreSides lines ps r.head h sides
+  pub runs : RunsAdjoint lines are_sides.marks ps r.head h.vars h.outvars sides.emitted
   pub is : a ≡ check_answer r sides bytes
   pub traps : TrapsAlone r sides bytes
 
@@ -65,15 +66,15 @@ abbrev pub Fitted : Bool → Type 0 → Answer → Type 0
 Fitted true P a = P
 Fitted false P a = a ≡ too_large
 
-abbrev pub AnswersAcceptedCheck : Asked → List ℕ → List Procedure → Head → Answer → Type 0
-AnswersAcceptedCheck r bytes ps h a = Fitted (kernel_fits (kernel_of ps)) (IsChecked ps h r bytes a) a
+abbrev pub AnswersAcceptedCheck : Asked → List ℕ → List ℕ → List Procedure → Head → Answer → Type 0
+AnswersAcceptedCheck r bytes lines ps h a = Fitted (kernel_fits (kernel_of ps)) (IsChecked lines ps h r bytes a) a
 
-abbrev pub AnswersSoundCheck : Asked → List (List ℕ) → List (List ℕ) → List ℕ → List Procedure → Answer → Type 0
-AnswersSoundCheck r vars outvars bytes ps a = Unrefused (first_head_fault ps r.head vars outvars) (AnswersAcceptedCheck r bytes ps (head_of ps r.head vars outvars) a) a
+abbrev pub AnswersSoundCheck : Asked → List (List ℕ) → List (List ℕ) → List ℕ → List ℕ → List Procedure → Answer → Type 0
+AnswersSoundCheck r vars outvars bytes lines ps a = Unrefused (first_head_fault ps r.head vars outvars) (AnswersAcceptedCheck r bytes lines ps (head_of ps r.head vars outvars) a) a
 
 abbrev pub AnswersTextCheck : Asked → List (List ℕ) → List (List ℕ) → List ℕ → Result (List Procedure) Refusal → Answer → Type 0
 AnswersTextCheck r vars outvars bytes (Err e) a = a ≡ refused e
-AnswersTextCheck r vars outvars bytes (Ok ps) a = Unrefused (first_fault source_rules ps) (AnswersSoundCheck r vars outvars bytes ps a) a
+AnswersTextCheck r vars outvars bytes (Ok ps) a = SplitsAre (λ lines. Unrefused (first_fault source_rules ps) (AnswersSoundCheck r vars outvars bytes lines ps a) a) bytes
 
 abbrev pub AnswersSizedCheck : Bool → Asked → List (List ℕ) → List (List ℕ) → List ℕ → Answer → Type 0
 AnswersSizedCheck true r vars outvars bytes a = a ≡ too_long most_bytes
@@ -92,9 +93,12 @@ pub record ChecksAdjoint (r : Asked) (vars outvars : List (List ℕ)) (bytes tex
   pub reads : ReadsLowered bytes source
   -- which does what the text does with its blocks
   pub keeps : KeepsRuns reads.shared
+  -- the lines of its calls that directives split
+  pub splits : List ℕ
+  pub reads_splits : ReadsSplits bytes splits
   pub sides : Sides
-  pub are_sides : AreSides source r.head (head_of source r.head vars outvars) sides
-  pub runs : RunsAdjoint are_sides.marks source r.head (flags_of vars sides.head.dummies) (flags_of outvars sides.head.dummies) sides.emitted
+  pub are_sides : AreSides splits source r.head (head_of source r.head vars outvars) sides
+  pub runs : RunsAdjoint splits are_sides.marks source r.head (flags_of vars sides.head.dummies) (flags_of outvars sides.head.dummies) sides.emitted
   pub agrees : Agrees r (lines_by source are_sides.marks) sides bytes text
 
 -- where the answer to these bytes is done

@@ -1,7 +1,8 @@
 -- Complete: where a text and its data have no fault and each run is done, the answer is done.
-use Rattle.std.specs.Prelude.{◌≡◌, ◌≤◌, ℕ, List, Bool, true, length, drop, Some, None, Ok}
+use Rattle.std.specs.Prelude.{◌≡◌, ◌≤◌, ℕ, List, true, length, drop, Some, None, Ok}
 use Rattle.adj_tree.specs.Code.{Procedure}
 use Rattle.def_text.specs.Data.{data_of}
+use Rattle.def_text.specs.Reads.{ReadsSplits}
 use Rattle.def_text.specs.declared.mode.Mode.{Mode}
 use Rattle.def_text.specs.declared.mode.Mode.TheVariants.{Source, Run}
 use Rattle.def_meaning.specs.Scene.{Outcome, Done}
@@ -73,5 +74,5 @@ JacobianIsDone =
 abbrev pub CheckIsDone : Type 0
 CheckIsDone =
     (r : Asked) (vars outvars : List (List ℕ)) (bytes : List ℕ) (a : Answer) (t : IsHeadedText r.head vars outvars bytes) →
-    ((p : Sides) → AreSides t.text.source r.head (head_of t.text.source r.head vars outvars) p → (check_fault (data_of bytes).1 (drop (data_of bytes).0 bytes) p.head p.vars p.outvars ≡ None) × AreDone r p (given_of p bytes)) →
+    ((lines : List ℕ) → ReadsSplits bytes lines → (p : Sides) → AreSides lines t.text.source r.head (head_of t.text.source r.head vars outvars) p → (check_fault (data_of bytes).1 (drop (data_of bytes).0 bytes) p.head p.vars p.outvars ≡ None) × AreDone r p (given_of p bytes)) →
     AnswersCheck r vars outvars bytes a → a.status ≡ 0

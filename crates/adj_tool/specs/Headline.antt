@@ -1,8 +1,8 @@
 -- Headline: what the written text is.
-use Rattle.std.specs.Prelude.{◌≡◌, ℕ, List, map, Bool, true, Some}
+use Rattle.std.specs.Prelude.{◌≡◌, ℕ, List, [], map, Bool, true, Some}
 use Rattle.adj_tree.specs.Code.{Procedure}
 use Rattle.adj_tree.specs.Lines.{unlined}
-use Rattle.def_text.specs.Reads.{Reads}
+use Rattle.def_text.specs.Reads.{Reads, ReadsSplits}
 use Rattle.def_common.specs.Source.{ReadsLowered, KeepsRuns}
 use Rattle.def_text.specs.ReadsAs.{ReadsAs}
 use Rattle.def_text.specs.Text.{text_of}
@@ -47,21 +47,21 @@ abbrev pub flags_of : List (List ℕ) → List (List ℕ) → List Bool
 flags_of listed names = map (λ x. has_name x listed) names
 
 -- A program is an adjoint of a program for the unit of a name as its head, in which marked loops are reversed by schedules, and looks as one that is emitted by
--- these marks; and its run takes so many statements.
-pub record RunsAdjoint (m : ProgramMarks) (ps : List Procedure) (name : List ℕ) (vars outvars : List Bool) (qs : List Procedure) : Type 0 where
+-- these marks, which split the calls at these lines; and its run takes so many statements.
+pub record RunsAdjoint (splits : List ℕ) (m : ProgramMarks) (ps : List Procedure) (name : List ℕ) (vars outvars : List Bool) (qs : List Procedure) : Type 0 where
   -- the marked loops that it reverses by schedules are those whose step call is adjointed, and their step units have other names than their adjoints
   pub adjoins : IsAdjointOf (lines_by ps m) m ps name vars outvars qs
   pub own_names : HaveOwnNames (lines_by ps m)
   -- it has the units, and each of its adjoint units keeps, saves, pushes and sets what these marks say
   pub shape : HasKernelShape true m ps name vars outvars qs
-  -- Where no loop of the source is marked: by what a statement of the source weighs at most, and by how many calls a chain from the head has at most,
+  -- Where no loop of the source is marked, and no call split: by what a statement of the source weighs at most, and by how many calls a chain from the head has at most,
   -- its run takes so many statements for each one of the source's own run: within 40 * weight * (calls + 2), and two for each dummy of the head.
-  pub spends : HasNoMarks ps → (weight calls : ℕ) → EachUnit (λ u. WeighsAtMost weight u.body) ps → CallsAtMost ps name calls → SpendsAtMost m ps name weight calls qs
-  -- Whether loops are marked or not: by what a statement of the kernel weighs at most, by how many calls a chain from the head has in it at most, and by a
+  pub spends : HasNoMarks ps → splits ≡ [] → (weight calls : ℕ) → EachUnit (λ u. WeighsAtMost weight u.body) ps → CallsAtMost ps name calls → SpendsAtMost m ps name weight calls qs
+  -- Whether loops are marked or not, where no call is split: by what a statement of the kernel weighs at most, by how many calls a chain from the head has in it at most, and by a
   -- number of repetitions that serves each run of a reversed loop that the kernel's run of the head told of, its run takes so many statements for
   -- each one of the kernel's run: (30 + 2 * (calls + 1) * (repetitions + 1)) * weight, and two for each dummy of the head.
-  pub spends_reversed : (weight calls : ℕ) → EachUnit (λ u. WeighsAtMost weight u.body) (kernel_of ps) → CallsWithin (kernel_of ps) name calls → KernelSpendsAtMost (lines_by ps m) m ps name weight calls qs
-  -- with the number of variables that a unit of the kernel has at most: within 100 * (weight + variables) * (calls + 2) * (repetitions + 2)
+  pub spends_reversed : splits ≡ [] → (weight calls : ℕ) → EachUnit (λ u. WeighsAtMost weight u.body) (kernel_of ps) → CallsWithin (kernel_of ps) name calls → KernelSpendsAtMost (lines_by ps m) m ps name weight calls qs
+  -- Whether calls are split or not, with the number of variables that a unit of the kernel has at most: within 100 * (weight + variables) * (calls + 2) * (repetitions + 2)
   pub spends_within : (weight count calls : ℕ) → EachUnit (λ u. WeighsAtMost weight u.body) (kernel_of ps) → HaveVariables count (kernel_of ps) → CallsWithin (kernel_of ps) name calls → KernelSpendsWithin (lines_by ps m) m ps name weight count calls qs
 
 -- the bytes that were read are a program, in which members of blocks are dummies, and whose unit of the name asked for is the head; the bytes that were written are a program too, and the
@@ -85,10 +85,13 @@ pub record Rewrites (r : Request) (bytes written : List ℕ) : Type 0 where
 -- the program that was written is an adjoint of the one that was read, for the head with its independents and dependents
 pub record WritesAdjoint (r : Request) (bytes written : List ℕ) : Type 0 where
   pub programs : Rewrites r bytes written
-  -- by the marks that exact analyses of the kernel give
+  -- the lines of the calls that directives split
+  pub splits : List ℕ
+  pub reads_splits : ReadsSplits bytes splits
+  -- by the marks that exact analyses of the kernel give, where these are split
   pub marks : ProgramMarks
-  pub exact : AreExact programs.source r.head (head_of programs.source r.head r.vars r.outvars) marks
-  pub adjoins : RunsAdjoint marks programs.source r.head (flags_of r.vars programs.unit.dummies) (flags_of r.outvars programs.unit.dummies) programs.emitted
+  pub exact : AreExact splits programs.source r.head (head_of programs.source r.head r.vars r.outvars) marks
+  pub adjoins : RunsAdjoint splits marks programs.source r.head (flags_of r.vars programs.unit.dummies) (flags_of r.outvars programs.unit.dummies) programs.emitted
 
 -- the program that was written is the tangent of the one that was read, for the head with its independents
 pub record WritesTangent (r : Request) (bytes written : List ℕ) : Type 0 where
@@ -104,10 +107,10 @@ pub record WritesTangent (r : Request) (bytes written : List ℕ) : Type 0 where
 -- ---- what is asked of the text
 
 -- where the answer is done, the kernel fits, and its text reads as the program that is emitted by the marks of exact analyses
-pub record ReadsWritten (ps : List Procedure) (name : List ℕ) (h : Head) (text : List ℕ) : Type 0 where
+pub record ReadsWritten (lines : List ℕ) (ps : List Procedure) (name : List ℕ) (h : Head) (text : List ℕ) : Type 0 where
   pub fits : kernel_fits (kernel_of ps) ≡ true
   pub marks : ProgramMarks
-  pub exact : AreExact ps name h marks
+  pub exact : AreExact lines ps name h marks
   pub is_text : text ≡ text_of (reversed_for ps name h.vars h.outvars marks)
   pub reads : ReadsAs text (reversed_for ps name h.vars h.outvars marks)
 
@@ -120,13 +123,13 @@ pub record ReadsTangent (ps : List Procedure) (name : List ℕ) (h : Head) (text
   pub is_text : text ≡ text_of (tangent_for (carried_by (kernel_of ps) carried) ps name h.vars)
   pub reads : ReadsAs text (tangent_for (carried_by (kernel_of ps) carried) ps name h.vars)
 
-abbrev pub ReadsFor : Wanted → List Procedure → List ℕ → Head → List ℕ → Type 0
-ReadsFor wanted.Adjoint ps name h text = ReadsWritten ps name h text
-ReadsFor wanted.Tangent ps name h text = ReadsTangent ps name h text
-ReadsFor wanted.Plan ps name h text = Unit {0}
+abbrev pub ReadsFor : Wanted → List ℕ → List Procedure → List ℕ → Head → List ℕ → Type 0
+ReadsFor wanted.Adjoint lines ps name h text = ReadsWritten lines ps name h text
+ReadsFor wanted.Tangent lines ps name h text = ReadsTangent ps name h text
+ReadsFor wanted.Plan lines ps name h text = Unit {0}
 
-abbrev pub ReadsBack : Wanted → Answer → List Procedure → List ℕ → Head → Type 0
-ReadsBack w a ps name h = a.status ≡ 0 → ReadsFor w ps name h a.text
+abbrev pub ReadsBack : Wanted → Answer → List ℕ → List Procedure → List ℕ → Head → Type 0
+ReadsBack w a lines ps name h = a.status ≡ 0 → ReadsFor w lines ps name h a.text
 
 -- where the answer to these bytes is done, its text is that of an adjoint, or of a tangent
 abbrev pub Writes : Wanted → Request → List ℕ → List ℕ → Type 0

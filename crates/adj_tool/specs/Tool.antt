@@ -3,7 +3,6 @@ use Rattle.std.specs.Prelude.{◌≡◌, ◌⊎◌, ◌+◌, ◌<◌, ◌≤◌,
 use Rattle.adj_io.specs.Bytes.{HasRead, IsAtEnd, extended_by, followed_by}
 use Rattle.adj_tool_answer.specs.Answer.{Answer, usage}
 use Rattle.adj_tool_run.specs.Running as running
-use Rattle.adj_tool_answer.specs.Endings.{Asked}
 use Rattle.adj_tool_run.specs.Running.{AnswersRun}
 use Rattle.adj_tool_jacobian.specs.Jacobian as jacobian
 use Rattle.adj_tool_jacobian.specs.Jacobian.{AnswersJacobian}

@@ -3,6 +3,7 @@
 ghost use Rattle.std.specs.Prelude.{◌≡◌, ◌≤◌, ◌∷◌, [], ℕ, List, None, Ok, length, IfOk};
 ghost use Rattle.adj_tree.specs.View.{procedures_of};
 ghost use Rattle.def_common.specs.Source.{ReadsLowered};
+ghost use Rattle.def_text.specs.Reads.{ReadsSplits};
 ghost use Rattle.def_text.specs.Written.{IsWritten};
 ghost use Rattle.adj_symbols.specs.Checked.{IsWrittenIfNamed};
 ghost use Rattle.def_text.specs.declared.mode.Mode.TheVariants.{Source};
@@ -23,7 +24,7 @@ use crate::task::{Request, Wanted};
 use adj_fixed::Mode;
 use adj_norm::checked_kernel;
 use adj_symbols::{Checked, check, head};
-use adj_tool_answer::{Answer, Status, read, reading_law, refused};
+use adj_tool_answer::{Answer, Reading, Status, read_marked, reading_law, refused};
 use adj_tree::{Fault, Head, Memory, Name, Program, Refusal};
 use law_limits::emitted_law;
 use law_tangent_carried::limits_law;
@@ -65,11 +66,12 @@ fn written(
     program: Checked,
     name: &Name,
     head: Head,
+    splits: &[u32],
 ) -> Result<Answer, Memory>
     requires accepted { IsAccepted (procedures_of program.program) }
     requires there { IsUnit (procedures_of program.program) name.now }
-    ensures answer { IfOk result (λ a. AnswersFitted (kernel_fits (kernel_of (procedures_of program.program))) wanted (procedures_of program.program) name.now head (answer_of a)) }
-    ensures reads_back { IfOk result (λ a. ReadsBack wanted (answer_of a) (procedures_of program.program) name.now head) }
+    ensures answer { IfOk result (λ a. AnswersFitted (kernel_fits (kernel_of (procedures_of program.program))) wanted splits.now (procedures_of program.program) name.now head (answer_of a)) }
+    ensures reads_back { IfOk result (λ a. ReadsBack wanted (answer_of a) splits.now (procedures_of program.program) name.now head) }
 {
     let kernel = kernel_alone(alloc, program)?;
     if !kernel.fits() {
@@ -83,7 +85,7 @@ fn written(
         vars,
         outvars,
     };
-    let text = text_wanted(alloc, wanted, kernel, &own)?;
+    let text = text_wanted(alloc, wanted, kernel, &own, splits)?;
     Ok(Answer {
         status: Status::Done,
         text,
@@ -97,18 +99,19 @@ fn answer_head(
     request: &Request,
     program: Checked,
     head: Head,
+    splits: &[u32],
 ) -> Result<Answer, Memory>
     requires written { IsWritten (procedures_of program.program) }
     requires sound { IsSound source_rules (procedures_of program.program) }
     requires sound_head { let r = request_of request.now in first_head_fault (procedures_of program.program) r.head r.vars r.outvars ≡ None }
     requires head { let r = request_of request.now in head ≡ head_of (procedures_of program.program) r.head r.vars r.outvars }
-    ensures answer { IfOk result (λ a. AnswersAccepted wanted (procedures_of program.program) request.now.head head (answer_of a)) }
-    ensures transformed { IfOk result (λ a. (bytes : List ℕ) → length bytes ≤ most_bytes → ReadsLowered bytes (procedures_of program.program) → program_of Source bytes ≡ Ok (procedures_of program.program) → IsTransformed wanted (request_of request.now) bytes (answer_of a)) }
+    ensures answer { IfOk result (λ a. AnswersAccepted wanted splits.now (procedures_of program.program) request.now.head head (answer_of a)) }
+    ensures transformed { IfOk result (λ a. (bytes : List ℕ) → length bytes ≤ most_bytes → ReadsSplits bytes splits.now → ReadsLowered bytes (procedures_of program.program) → program_of Source bytes ≡ Ok (procedures_of program.program) → IsTransformed wanted (request_of request.now) bytes (answer_of a)) }
 {
     emitted_law();
     limits_law();
     reading_law();
-    let answer = written(alloc, wanted, program, &request.head, head)?;
+    let answer = written(alloc, wanted, program, &request.head, head, splits)?;
     Ok(answer)
 }
 
@@ -118,16 +121,17 @@ fn answer_checked(
     wanted: Wanted,
     request: &Request,
     checked: Checked,
+    splits: &[u32],
 ) -> Result<Answer, Memory>
     requires written { IsWritten (procedures_of checked.program) }
     requires sound { IsSound source_rules (procedures_of checked.program) }
-    ensures answer { IfOk result (λ a. AnswersChecked None wanted (request_of request.now) (procedures_of checked.program) (answer_of a)) }
-    ensures transformed { IfOk result (λ a. (bytes : List ℕ) → length bytes ≤ most_bytes → ReadsLowered bytes (procedures_of checked.program) → program_of Source bytes ≡ Ok (procedures_of checked.program) → IsTransformed wanted (request_of request.now) bytes (answer_of a)) }
+    ensures answer { IfOk result (λ a. AnswersChecked None wanted (request_of request.now) splits.now (procedures_of checked.program) (answer_of a)) }
+    ensures transformed { IfOk result (λ a. (bytes : List ℕ) → length bytes ≤ most_bytes → ReadsSplits bytes splits.now → ReadsLowered bytes (procedures_of checked.program) → program_of Source bytes ≡ Ok (procedures_of checked.program) → IsTransformed wanted (request_of request.now) bytes (answer_of a)) }
 {
     let vars = request.vars.as_slice();
     let outvars = request.outvars.as_slice();
     match head(alloc, &checked, &request.head, vars, outvars) {
-        Ok(head) => answer_head(alloc, wanted, request, checked, head),
+        Ok(head) => answer_head(alloc, wanted, request, checked, head, splits),
         Err(Fault::Refused(refusal)) => refused(alloc, refusal),
         Err(Fault::Memory) => Err(Memory),
     }
@@ -139,13 +143,14 @@ pub(crate) fn answer_program(
     wanted: Wanted,
     request: &Request,
     program: Program,
+    splits: &[u32],
 ) -> Result<Answer, Memory>
     requires { IsWrittenIfNamed (procedures_of program) }
-    ensures answer { IfOk result (λ a. AnswersProgram wanted (request_of request.now) (procedures_of program) (answer_of a)) }
-    ensures transformed { IfOk result (λ a. (bytes : List ℕ) → length bytes ≤ most_bytes → ReadsLowered bytes (procedures_of program) → program_of Source bytes ≡ Ok (procedures_of program) → IsTransformed wanted (request_of request.now) bytes (answer_of a)) }
+    ensures answer { IfOk result (λ a. AnswersProgram wanted (request_of request.now) splits.now (procedures_of program) (answer_of a)) }
+    ensures transformed { IfOk result (λ a. (bytes : List ℕ) → length bytes ≤ most_bytes → ReadsSplits bytes splits.now → ReadsLowered bytes (procedures_of program) → program_of Source bytes ≡ Ok (procedures_of program) → IsTransformed wanted (request_of request.now) bytes (answer_of a)) }
 {
     match check(alloc, program, Mode::Source) {
-        Ok(checked) => answer_checked(alloc, wanted, request, checked),
+        Ok(checked) => answer_checked(alloc, wanted, request, checked, splits),
         Err(Fault::Refused(refusal)) => refused(alloc, refusal),
         Err(Fault::Memory) => Err(Memory),
     }
@@ -153,8 +158,8 @@ pub(crate) fn answer_program(
 
 /// The answer to an input within the limit. Here the way of a text begins:
 ///
-/// 1. `read` (adj_tool_answer) makes lines, statements and trees of the bytes, and dummies of the members of blocks: a `Program`, or the first
-///    fault of the text.
+/// 1. `read_marked` (adj_tool_answer) makes lines, statements and trees of the bytes, and dummies of the members of blocks: a `Program` and the
+///    lines of calls that are to be split, or the first fault of the text.
 /// 2. `check` (adj_symbols) makes it a `Checked`: its names, calls, chains and writes have no fault.
 /// 3. `head` (adj_symbols) finds the unit that is asked for, with its independents and its dependents.
 /// 4. `checked_kernel` (adj_norm) writes the kernel, and checks it: one more `Checked`. The program is let go.
@@ -173,8 +178,11 @@ pub(crate) fn answer_wanted(
     ensures answer { IfOk result (λ a. AnswersWanted wanted (request_of request.now) bytes.now (answer_of a)) }
     ensures transformed { IfOk result (λ a. IsTransformed wanted (request_of request.now) bytes.now (answer_of a)) }
 {
-    match read(alloc, bytes, Mode::Source) {
-        Ok(program) => answer_program(alloc, wanted, request, program),
+    match read_marked(alloc, bytes, Mode::Source) {
+        Ok(reading) => {
+            let Reading { program, splits } = reading;
+            answer_program(alloc, wanted, request, program, splits.as_slice())
+        }
         Err(Fault::Refused(refusal)) => refused(alloc, refusal),
         Err(Fault::Memory) => Err(Memory),
     }

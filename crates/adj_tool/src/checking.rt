@@ -4,6 +4,7 @@ ghost use Rattle.std.specs.Prelude.{◌≡◌, ◌≤◌, None, Ok, length, IfOk
 ghost use Rattle.adj_io.specs.Faults.{Rose};
 ghost use Rattle.adj_tree.specs.View.{procedures_of};
 ghost use Rattle.def_common.specs.Source.{ReadsLowered};
+ghost use Rattle.def_text.specs.Reads.{ReadsSplits};
 ghost use Rattle.adj_symbols.specs.Checked.{IsWrittenIfNamed};
 ghost use Rattle.def_text.specs.declared.mode.Mode.TheVariants.{Source};
 ghost use Rattle.def_names.specs.Check.{IsSound};
@@ -25,7 +26,7 @@ use adj_fixed::Mode;
 use adj_io::Source;
 use adj_norm::checked_kernel;
 use adj_symbols::{Checked, check, head};
-use adj_tool_answer::{Answer, read, reading_law, refused};
+use adj_tool_answer::{Answer, Reading, read_marked, reading_law, refused};
 use adj_tool_check::{check_answer, check_law};
 use adj_tree::{Fault, Head, Memory, Program};
 use law_limits::emitted_law;
@@ -37,6 +38,7 @@ fn answer_head(
     request: &CheckRequest,
     program: &Checked,
     head: Head,
+    splits: &[u32],
     bytes: &[u8],
 ) -> Result<Answer, Memory>
     requires sound { IsSound source_rules (procedures_of program.now.program) }
@@ -44,8 +46,9 @@ fn answer_head(
     requires head { head ≡ head_of (procedures_of program.now.program) request.now.run.head request.now.vars request.now.outvars }
     requires given { program_of Source bytes.now ≡ Ok (procedures_of program.now.program) }
     requires reads { ReadsLowered bytes.now (procedures_of program.now.program) }
+    requires splits { ReadsSplits bytes.now splits.now }
     requires few { length bytes.now ≤ most_bytes }
-    ensures answer { IfOk result (λ a. AnswersAcceptedCheck (asked_of request.now.run) bytes.now (procedures_of program.now.program) head (answer_of a)) }
+    ensures answer { IfOk result (λ a. AnswersAcceptedCheck (asked_of request.now.run) bytes.now splits.now (procedures_of program.now.program) head (answer_of a)) }
     ensures compared { IfOk result (λ a. IsCompared (asked_of request.now.run) request.now.vars request.now.outvars bytes.now (answer_of a)) }
 {
     emitted_law();
@@ -61,7 +64,7 @@ fn answer_head(
         vars: head.vars,
         outvars: head.outvars,
     };
-    let emitted = known(alloc, kernel, &own)?;
+    let emitted = known(alloc, kernel, &own, splits)?;
     let head = Head {
         unit: number,
         vars: own.vars,
@@ -76,19 +79,21 @@ fn answer_checked(
     alloc: Global,
     request: &CheckRequest,
     program: &Checked,
+    splits: &[u32],
     bytes: &[u8],
 ) -> Result<Answer, Memory>
     requires sound { IsSound source_rules (procedures_of program.now.program) }
     requires given { program_of Source bytes.now ≡ Ok (procedures_of program.now.program) }
     requires reads { ReadsLowered bytes.now (procedures_of program.now.program) }
+    requires splits { ReadsSplits bytes.now splits.now }
     requires few { length bytes.now ≤ most_bytes }
-    ensures answer { IfOk result (λ a. AnswersSoundCheck (asked_of request.now.run) request.now.vars request.now.outvars bytes.now (procedures_of program.now.program) (answer_of a)) }
+    ensures answer { IfOk result (λ a. AnswersSoundCheck (asked_of request.now.run) request.now.vars request.now.outvars bytes.now splits.now (procedures_of program.now.program) (answer_of a)) }
     ensures compared { IfOk result (λ a. IsCompared (asked_of request.now.run) request.now.vars request.now.outvars bytes.now (answer_of a)) }
 {
     let vars = request.vars.as_slice();
     let outvars = request.outvars.as_slice();
     match head(alloc, program, &request.run.head, vars, outvars) {
-        Ok(head) => answer_head(alloc, request, program, head, bytes),
+        Ok(head) => answer_head(alloc, request, program, head, splits, bytes),
         Err(Fault::Refused(refusal)) => refused(alloc, refusal),
         Err(Fault::Memory) => Err(Memory),
     }
@@ -99,17 +104,19 @@ fn answer_program(
     alloc: Global,
     request: &CheckRequest,
     program: Program,
+    splits: &[u32],
     bytes: &[u8],
 ) -> Result<Answer, Memory>
     requires written { IsWrittenIfNamed (procedures_of program) }
     requires given { program_of Source bytes.now ≡ Ok (procedures_of program) }
     requires reads { ReadsLowered bytes.now (procedures_of program) }
+    requires splits { ReadsSplits bytes.now splits.now }
     requires few { length bytes.now ≤ most_bytes }
     ensures answer { IfOk result (λ a. AnswersTextCheck (asked_of request.now.run) request.now.vars request.now.outvars bytes.now (Ok (procedures_of program)) (answer_of a)) }
     ensures compared { IfOk result (λ a. IsCompared (asked_of request.now.run) request.now.vars request.now.outvars bytes.now (answer_of a)) }
 {
     match check(alloc, program, Mode::Source) {
-        Ok(checked) => answer_checked(alloc, request, &checked, bytes),
+        Ok(checked) => answer_checked(alloc, request, &checked, splits, bytes),
         Err(Fault::Refused(refusal)) => refused(alloc, refusal),
         Err(Fault::Memory) => Err(Memory),
     }
@@ -121,8 +128,11 @@ fn answer_bytes(alloc: Global, request: &CheckRequest, bytes: &[u8]) -> Result<A
     ensures answer { IfOk result (λ a. AnswersCheck (asked_of request.now.run) request.now.vars request.now.outvars bytes.now (answer_of a)) }
     ensures compared { IfOk result (λ a. IsCompared (asked_of request.now.run) request.now.vars request.now.outvars bytes.now (answer_of a)) }
 {
-    match read(alloc, bytes, Mode::Source) {
-        Ok(program) => answer_program(alloc, request, program, bytes),
+    match read_marked(alloc, bytes, Mode::Source) {
+        Ok(reading) => {
+            let Reading { program, splits } = reading;
+            answer_program(alloc, request, program, splits.as_slice(), bytes)
+        }
         Err(Fault::Refused(refusal)) => refused(alloc, refusal),
         Err(Fault::Memory) => Err(Memory),
     }

@@ -1,9 +1,11 @@
 //! What is written of a kernel: what is emitted for it, as its adjoint or as its tangent, or its plan.
 
-ghost use Rattle.std.specs.Prelude.{◌≡◌, ◌<◌, IfOk, length, true};
+ghost use Rattle.std.specs.Prelude.{◌≡◌, ◌<◌, ℕ, List, IfOk, length, true, false};
 ghost use Rattle.adj_tree.specs.View.{procedures_of};
 ghost use Rattle.def_kernel.specs.Form.{IsKernel};
 ghost use Rattle.def_sweep.specs.Program.{emitted_program_with};
+ghost use Rattle.def_flow.specs.Splits.{is_line, split_calls};
+ghost use Rattle.adj_reach.specs.Edges.{flag};
 ghost use Rattle.adj_symbols.specs.Checked.{AreFacts};
 ghost use Rattle.adj_symbols.specs.Numbers.{Fits};
 ghost use Rattle.adj_activity.specs.Carried.{AreCarried};
@@ -42,6 +44,7 @@ fn emitted(
     requires units { units_of found.now.flow ≡ procedures_of kernel.now.program }
     requires flow { IsFlow found.now.flow head.now.unit }
     requires plan { IsPlan found.now.flow (problem_of found.now.flow head.now) found.now.marks }
+    requires split { (lines : List ℕ) × ((n : ℕ) → flag found.now.flow.split n ≡ split_calls (is_line lines) (procedures_of kernel.now.program) n) }
     ensures emitted { IfOk result (λ p. procedures_of p ≡ emitted_program_with true (marks_told found.now.flow found.now.marks) (procedures_of kernel.now.program) head.now.unit head.now.vars head.now.outvars) }
 {
     checked_law(kernel);
@@ -64,7 +67,8 @@ fn known_by(
     requires units { units_of found.now.flow ≡ procedures_of kernel.now.program }
     requires flow { IsFlow found.now.flow head.now.unit }
     requires plan { IsPlan found.now.flow (problem_of found.now.flow head.now) found.now.marks }
-    ensures known { IfOk result (λ e. IsKnownFor (procedures_of kernel.now.program) head.now (procedures_of e.program) e.adjoint e.shadowed) }
+    requires split { (lines : List ℕ) × ((n : ℕ) → flag found.now.flow.split n ≡ split_calls (is_line lines) (procedures_of kernel.now.program) n) }
+    ensures known { IfOk result (λ e. (lines : List ℕ) → ((n : ℕ) → flag found.now.flow.split n ≡ split_calls (is_line lines) (procedures_of kernel.now.program) n) → IsKnownFor lines (procedures_of kernel.now.program) head.now (procedures_of e.program) e.adjoint e.shadowed) }
 {
     let (marks, flow) = (&found.marks, &found.flow);
     let by = Marked::Found(FoundMarks { marks, flow });
@@ -77,38 +81,53 @@ fn known_by(
     })
 }
 
-/// What is emitted for a kernel by the marks that its analyses find, with what is to be known of the adjoint of its head. The kernel is
-/// gone then.
-pub(crate) fn known(alloc: Global, kernel: Checked, head: &Head) -> Result<Emitted, Memory>
+/// What is emitted for a kernel by the marks that its analyses find, where the calls at these lines are split, with what is to be known of
+/// the adjoint of its head. The kernel is gone then.
+pub(crate) fn known(
+    alloc: Global,
+    kernel: Checked,
+    head: &Head,
+    splits: &[u32],
+) -> Result<Emitted, Memory>
     requires fits { Fits kernel }
     requires head { head.now.unit < length kernel.program.units }
     requires kernel { IsKernel (procedures_of kernel.program) }
-    ensures known { IfOk result (λ e. IsKnownFor (procedures_of kernel.program) head.now (procedures_of e.program) e.adjoint e.shadowed) }
+    ensures known { IfOk result (λ e. IsKnownFor splits.now (procedures_of kernel.program) head.now (procedures_of e.program) e.adjoint e.shadowed) }
 {
-    let found = plan(alloc, &kernel, head)?;
+    let found = plan(alloc, &kernel, head, splits)?;
     known_by(alloc, &kernel, head, &found)
 }
 
 // What is emitted for a kernel by the marks that its analyses find. These are gone then.
-fn emitted_for(alloc: Global, kernel: &Checked, head: &Head) -> Result<Program, Memory>
+fn emitted_for(
+    alloc: Global,
+    kernel: &Checked,
+    head: &Head,
+    splits: &[u32],
+) -> Result<Program, Memory>
     requires fits { Fits kernel.now }
     requires head { head.now.unit < length kernel.now.program.units }
     requires kernel { IsKernel (procedures_of kernel.now.program) }
-    ensures emitted { IfOk result (λ p. IsEmittedFor (procedures_of kernel.now.program) head.now (procedures_of p)) }
+    ensures emitted { IfOk result (λ p. IsEmittedFor splits.now (procedures_of kernel.now.program) head.now (procedures_of p)) }
 {
-    let found = plan(alloc, kernel, head)?;
+    let found = plan(alloc, kernel, head, splits)?;
     let program = emitted(alloc, kernel, head, &found)?;
     Ok(program)
 }
 
 // The text of what is emitted for a kernel. The kernel is gone when the text is laid out.
-fn adjoint_text(alloc: Global, kernel: Checked, head: &Head) -> Result<Vec<u8>, Memory>
+fn adjoint_text(
+    alloc: Global,
+    kernel: Checked,
+    head: &Head,
+    splits: &[u32],
+) -> Result<Vec<u8>, Memory>
     requires fits { Fits kernel }
     requires head { head.now.unit < length kernel.program.units }
     requires kernel { IsKernel (procedures_of kernel.program) }
-    ensures text { IfOk result (λ v. IsAdjointText (procedures_of kernel.program) head.now v.items) }
+    ensures text { IfOk result (λ v. IsAdjointText splits.now (procedures_of kernel.program) head.now v.items) }
 {
-    let program = emitted_for(alloc, &kernel, head)?;
+    let program = emitted_for(alloc, &kernel, head, splits)?;
     drop(kernel);
     let text = text(alloc, &program)?;
     Ok(text)
@@ -126,6 +145,7 @@ fn tangent_by(
     requires units { units_of found.now.flow ≡ procedures_of kernel.now.program }
     requires flow { IsFlow found.now.flow head.now.unit }
     requires carried { AreCarried found.now.flow head.now found.now.carried }
+    requires split { (n : ℕ) → flag found.now.flow.split n ≡ false }
     ensures emitted { IfOk result (λ p. IsTangentEmitted (procedures_of kernel.now.program) head.now (procedures_of p)) }
 {
     let flags = found.carried.as_slice();
@@ -170,30 +190,31 @@ fn marks_text(
     requires units { units_of found.now.flow ≡ procedures_of kernel.now.program }
     requires flow { IsFlow found.now.flow head.now.unit }
     requires plan { IsPlan found.now.flow (problem_of found.now.flow head.now) found.now.marks }
-    ensures text { IfOk result (λ v. IsPlanText (procedures_of kernel.now.program) head.now v.items) }
+    ensures text { IfOk result (λ v. (lines : List ℕ) → ((n : ℕ) → flag found.now.flow.split n ≡ split_calls (is_line lines) (procedures_of kernel.now.program) n) → IsPlanText lines (procedures_of kernel.now.program) head.now v.items) }
 {
     let (_kernel, _head) = (kernel, head);
     let text = plan_text(alloc, found)?;
     Ok(text)
 }
 
-/// The text that is wanted of a kernel and its head, by the marks that its analyses find.
+/// The text that is wanted of a kernel and its head, by the marks that its analyses find, where the calls at these lines are split.
 pub(crate) fn text_wanted(
     alloc: Global,
     wanted: Wanted,
     kernel: Checked,
     head: &Head,
+    splits: &[u32],
 ) -> Result<Vec<u8>, Memory>
     requires fits { Fits kernel }
     requires head { head.now.unit < length kernel.program.units }
     requires kernel { IsKernel (procedures_of kernel.program) }
-    ensures text { IfOk result (λ v. IsTextFor wanted (procedures_of kernel.program) head.now v.items) }
+    ensures text { IfOk result (λ v. IsTextFor wanted splits.now (procedures_of kernel.program) head.now v.items) }
 {
     match wanted {
-        Wanted::Adjoint => adjoint_text(alloc, kernel, head),
+        Wanted::Adjoint => adjoint_text(alloc, kernel, head, splits),
         Wanted::Tangent => tangent_text(alloc, kernel, head),
         Wanted::Plan => {
-            let found = plan(alloc, &kernel, head)?;
+            let found = plan(alloc, &kernel, head, splits)?;
             marks_text(alloc, &kernel, head, &found)
         }
     }

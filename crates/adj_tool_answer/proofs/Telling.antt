@@ -34,9 +34,14 @@ use Rattle.def_refused.specs.TextFaults.{program_of, FirstOfText, FirstFault, Te
 use Rattle.def_refused.specs.TreeFaults.{TreeFault}
 use Rattle.law_common.specs.LoweredTexts.{LoweredIsWritten}
 use Rattle.adj_symbols.specs.Checked.{IsWrittenIfNamed}
+use Rattle.adj_tool_answer.specs.declared.reading.Reading.{Reading}
 use Rattle.adj_tool_answer.specs.Laws.{StatementsTold, StatementsOnly, UnitsTold, ProgramTold, ProgramOnly}
 use Rattle.adj_tool_answer.specs.Programs as programs
 use Rattle.adj_tool_answer.specs.Programs.{FirstOfStatements, of_lines, of_statements, AreStatements, DeriveUnits, DeriveProgram, AreUnits, IsProgram, Refuses, Tells}
+
+-- the program of what is read
+abbrev pub program_in : Reading → List Procedure
+program_in r = procedures_of r.program
 
 -- ---- answers
 

@@ -96,7 +96,7 @@ fn answer(alloc: Global, checked: &Checked, head: &Head) -> Result<Vec<u8>, Memo
     if head.unit >= units.len() || units.len() == usize::MAX {
         return Ok(Vec::new(alloc));
     }
-    let flow = flow(alloc, units, variables.as_slice(), head.unit)?;
+    let flow = flow(alloc, units, variables.as_slice(), head.unit, &[])?;
     let activity = activity(alloc, &flow, head)?;
     shown(alloc, &flow, &activity)
 }

@@ -258,17 +258,22 @@ fn shown(alloc: Global, flow: &Flow<'_>, marks: &Marks) -> Result<Vec<u8>, Memor
     Ok(out)
 }
 
-// The marks of a checked program, whose first unit is the head.
-fn answer(alloc: Global, checked: &Checked, head: &Head) -> Result<Vec<u8>, Memory> {
+// The marks of a checked program, whose first unit is the head, where the calls at these lines are to be split.
+fn answer(
+    alloc: Global,
+    checked: &Checked,
+    head: &Head,
+    splits: &[u32],
+) -> Result<Vec<u8>, Memory> {
     if head.unit >= checked.program().units.as_slice().len() || !checked.fits() {
         return Ok(Vec::new(alloc));
     }
-    let planned = plan(alloc, checked, head)?;
+    let planned = plan(alloc, checked, head, splits)?;
     shown(alloc, &planned.flow, &planned.marks)
 }
 
-// The marks of the program of a text.
-fn marks_of(alloc: Global, source: &[u8]) -> Result<Vec<u8>, Fault> {
+// The marks of the program of a text, where the calls at these lines are to be split.
+fn marks_of(alloc: Global, source: &[u8], splits: &[u32]) -> Result<Vec<u8>, Fault> {
     let program = read(alloc, source)?;
     let checked = check(alloc, program, Mode::Source)?;
     let head = Head {
@@ -276,7 +281,7 @@ fn marks_of(alloc: Global, source: &[u8]) -> Result<Vec<u8>, Fault> {
         vars: flags(alloc, b"100")?,
         outvars: flags(alloc, b"001")?,
     };
-    let answer = answer(alloc, &checked, &head)?;
+    let answer = answer(alloc, &checked, &head, splits)?;
     Ok(answer)
 }
 
@@ -286,8 +291,47 @@ fn the_marks_are_those_worked_out_by_hand(rt: HostRuntime) -> Result<(), Fail> {
     for case in &PROGRAMS {
         let (statements, other, expected) = *case;
         let text = text_of(alloc, statements, other)?;
-        let marks = marks_of(alloc, text.as_slice())?;
+        let marks = marks_of(alloc, text.as_slice(), &[])?;
         assert_eq!(rt; marks.as_slice(), expected.as_bytes(), "{statements}");
+    }
+    Ok(())
+}
+
+// Statements of P and of Q, and their marks where the call in line 5 is to be split, and where it isn't.
+const SPLIT: [(&str, &str, &str, &str); 3] = [
+    // The call is kept, and needs what Q reads.
+    (
+        "Y=X;CALL Q(Y)",
+        "SUBROUTINE Q(A);INTEGER*8 A;A=A*A;END",
+        "KA KA -A | XY A | X A",
+        "KA -A -A | XY A | X A",
+    ),
+    // N is held from the call on, which reads it.
+    (
+        "Y=X;CALL Q(Y,N);N=N+1;Y=Y*N",
+        "SUBROUTINE Q(A,M);INTEGER*8 A,M;A=A*2;K=M;END",
+        "KA KA K-:N -A -A -- | XY A | XN -",
+        "-A -A K- -A -A -- | XY A | N -",
+    ),
+    // It has no adjoint, so it isn't split.
+    (
+        "K=N;CALL Q(K);Y=X*K",
+        "SUBROUTINE Q(A);INTEGER*8 A;A=A+1;END",
+        "K- K- -A -- | XY - | N -",
+        "K- K- -A -- | XY - | N -",
+    ),
+];
+
+#[test]
+fn a_split_call_is_kept_and_saves_nothing(rt: HostRuntime) -> Result<(), Fail> {
+    let alloc = rt.alloc();
+    for case in &SPLIT {
+        let (statements, other, split, whole) = *case;
+        let text = text_of(alloc, statements, other)?;
+        let marks = marks_of(alloc, text.as_slice(), &[5])?;
+        assert_eq!(rt; marks.as_slice(), split.as_bytes(), "{statements}");
+        let others = marks_of(alloc, text.as_slice(), &[4])?;
+        assert_eq!(rt; others.as_slice(), whole.as_bytes(), "{statements}");
     }
     Ok(())
 }

@@ -80,6 +80,8 @@ pub(crate) fn no_callees(alloc: Global) -> Result<Callees, Memory> {
         known: Vec::new(alloc),
         other: Callee {
             adjoint: name(alloc, b"")?,
+            forth: name(alloc, b"")?,
+            back: name(alloc, b"")?,
             dummies: Vec::new(alloc),
         },
     })
@@ -100,6 +102,8 @@ pub(crate) fn one_callee(
     }
     callees.known.push(Callee {
         adjoint: name(alloc, adjoint)?,
+        forth: name(alloc, b"")?,
+        back: name(alloc, b"")?,
         dummies: known,
     })?;
     Ok(callees)

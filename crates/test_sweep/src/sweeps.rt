@@ -3,7 +3,7 @@
 use crate::built::{Called, is_text, listed, names, no_callees, one_callee, read};
 use adj_naming::role::Role;
 use adj_sets::NameSet;
-use adj_sweep::bodies::Body;
+use adj_sweep::bodies::{Body, PairBody};
 use adj_sweep::callees::{Callees, Dummy};
 use adj_sweep::plan::Plan;
 use adj_sweep::steps::MarkedLoops;
@@ -117,6 +117,76 @@ fn each_body_has_its_adjoint(rt: HostRuntime) -> Result<(), Fault> {
             let code = adjoint_of(alloc, &SCALARS, &callees, &unit.body)?;
             assert!(rt; is_text(alloc, code, lines)?, "{statements}");
         }
+    }
+    Ok(())
+}
+
+// Both bodies that are made of a body for split calls, where Y and I are left on the tape.
+fn pair_of(alloc: Global, statements: &Stmts) -> Result<(Stmts, Stmts), Memory> {
+    let names = names(alloc, &SCALARS)?;
+    let arrays = NameSet::new(alloc)?;
+    let callees = no_callees(alloc)?;
+    let marks: Marking<'static> = Marking::Full;
+    let plan = Plan {
+        names: &names,
+        marks: &marks,
+        loops: MarkedLoops::Reversed,
+        arrays: &arrays,
+        callees: &callees,
+    };
+    let left = listed(alloc, &[b"Y", b"I"])?;
+    let body = PairBody {
+        statements,
+        number: 0,
+        line: 1,
+        left: left.as_slice(),
+    };
+    let forth = plan.forth_body(alloc, &body)?;
+    let back = plan.back_body(alloc, &body)?;
+    Ok((forth, back))
+}
+
+// What is pushed at the end of the forward body is popped at the beginning of the backward one, in the opposite order.
+const PAIRED: &str = "      DO I=1,3,2\n      X=1\n      END DO\n";
+
+const FORTH: &str = "      CALL PUSHINTEGER8(I)
+      ADM1=1
+      ADI1=2
+      ADL1=0
+      DO I=ADM1,3,ADI1
+      CALL PUSHINTEGER8(X)
+      X=1
+      ADL1=ADL1+1
+      END DO
+      CALL PUSHINTEGER8(ADM1)
+      CALL PUSHINTEGER8(ADI1)
+      CALL PUSHINTEGER8(ADL1)
+      CALL PUSHINTEGER8(Y)
+      CALL PUSHINTEGER8(I)
+";
+
+const BACK: &str = "      CALL POPINTEGER8(I)
+      CALL POPINTEGER8(Y)
+      CALL POPINTEGER8(ADL1)
+      CALL POPINTEGER8(ADI1)
+      CALL POPINTEGER8(ADM1)
+      DO ADJ1=ADL1-1,0,-1
+      I=ADM1+ADJ1*ADI1
+      CALL POPINTEGER8(X)
+      XB=0
+      END DO
+      CALL POPINTEGER8(I)
+      IB=0
+";
+
+#[test]
+fn a_body_has_a_forward_and_a_backward_body(rt: HostRuntime) -> Result<(), Fault> {
+    let alloc = rt.alloc();
+    let program = read(alloc, PAIRED)?;
+    for unit in program.units.as_slice() {
+        let (forth, back) = pair_of(alloc, &unit.body)?;
+        assert!(rt; is_text(alloc, forth, FORTH)?);
+        assert!(rt; is_text(alloc, back, BACK)?);
     }
     Ok(())
 }

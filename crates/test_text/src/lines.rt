@@ -5,19 +5,22 @@ use adj_tree::{Fault, Mark};
 use std::alloc::{AllocError, Global};
 use std::test::Fail;
 
-// The number or the name of a directive, or 0.
-fn push_mark(out: &mut String, mark: &Mark) -> Result<(), AllocError> {
-    match mark {
+// The number or the name of a directive, or that it splits a call, or 0.
+fn push_advice(out: &mut String, stated: &Stated) -> Result<(), AllocError> {
+    if stated.split {
+        return out.push_str("split");
+    }
+    match &stated.mark {
         Mark::Plain => out.push_str("0"),
         Mark::Count(snapshots) => write!(out, "{snapshots}"),
         Mark::From(name) => out.push_str(str::from_utf8(name.bytes()).unwrap_or("?")),
     }
 }
 
-// One line for a statement: its line, label, mark and class, then the texts of its tokens.
+// One line for a statement: its line, label, what its directive says and class, then the texts of its tokens.
 fn push_shown(out: &mut String, stated: &Stated) -> Result<(), AllocError> {
     write!(out, "{} {} ", stated.line, stated.label)?;
-    push_mark(out, &stated.mark)?;
+    push_advice(out, stated)?;
     write!(out, " {:?}:", stated.kind)?;
     let text = stated.text.as_slice();
     for token in stated.tokens.as_slice() {
@@ -102,6 +105,8 @@ C within a statement
       DO WHILE = 1
       END DO
       CALL P
+c$ad  NoCheckPoint
+      CALL P
       END
 $DATA
       GOTO 10",
@@ -121,7 +126,8 @@ $DATA
 20 0 0 Assign: DOWHILE = 1
 21 0 0 EndDo:
 22 0 0 Call: P
-23 0 0 End:
+24 0 split Call: P
+25 0 0 End:
 ",
     ),
     (
@@ -305,6 +311,13 @@ const DIRECTIVES: &[(&str, u8, u32)] = &[
         1,
     ),
     ("C$AD BINOMIAL-CKP 5\nX", 1, 2),
+    ("C$AD NOCHECKPOINT 5\n      CALL Q", 20, 1),
+    ("C$AD NOCHECKPOINTS\n      CALL Q", 20, 1),
+    ("C$AD NOCHECKPOIN\n      CALL Q", 20, 1),
+    ("C$ADNOCHECKPOINT\n      CALL Q", 20, 1),
+    ("      X=1\nC$AD NOCHECKPOINT", 20, 2),
+    ("C$AD NOCHECKPOINT\n$DATA\n      CALL Q", 20, 1),
+    ("C$AD NOCHECKPOINT\nC c\n     1CALL Q", 20, 1),
     // The lines come first, then the statements in order.
     ("      GOTO 10\nX", 1, 2),
     ("      X=1.5\n      GOTO 10", 4, 1),
@@ -315,6 +328,7 @@ const DIRECTIVES: &[(&str, u8, u32)] = &[
     ("      COMMON/B/X,/C/Y", 0, 0),
     ("      COMMON/B/X=1", 0, 0),
     ("C$AD BINOMIAL-CKP 64  \n      X=1", 0, 0),
+    ("C$AD NOCHECKPOINT\n      X=1", 0, 0),
     ("C$AD BINOMIAL-CKP N\nC c\n      DOWHILE(I=1,2)", 0, 0),
     ("      X=1\n$DATA\nX", 0, 0),
     (

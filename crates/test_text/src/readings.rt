@@ -3,8 +3,9 @@
 use crate::read::reading;
 use crate::texts::push_line;
 use adj_fixed::Mode;
+use adj_tool_answer::read_marked;
 use adj_tree::Memory;
-use std::alloc::Global;
+use std::alloc::{AllocError, Global};
 
 // A body that is one statement or more, and its canonical text.
 // A line that begins with a blank or is a directive stands as it is; any other begins in column 7.
@@ -200,6 +201,23 @@ C$AD BINOMIAL-CKP 5
       END
 ";
 
+/// Two calls that directives split, and two that none does.
+const SPLIT: &[u8] = b"      SUBROUTINE P(X,Y)
+      INTEGER*8 X,Y
+C$AD NOCHECKPOINT
+      CALL Q(X)
+      CALL Q(X)
+c$ad nocheckpoint
+* a comment
+   10 CALL Q
+     1(Y)
+C$AD BINOMIAL-CKP 2
+      DO I=1,X
+      CALL Q(Y)
+      END DO
+      END
+";
+
 // The unit of this body.
 fn unit(alloc: Global, body: &str) -> Result<Vec<u8>, Memory> {
     let mut all = Vec::new(alloc);
@@ -236,5 +254,26 @@ fn loops_with_labels_read_as_their_trees(rt: HostRuntime) -> Result<(), Memory> 
         let found = reading(rt.alloc(), text, Mode::Source)?;
         assert!(rt; found.as_slice() == expected);
     }
+    Ok(())
+}
+
+// The lines of the split calls of a text, or its fault as Debug writes it.
+fn splits_in(alloc: Global, text: &[u8]) -> Result<String, AllocError> {
+    let mut out = String::new(alloc);
+    match read_marked(alloc, text, Mode::Source) {
+        Ok(reading) => {
+            for line in reading.splits.as_slice() {
+                write!(out, "{line} ")?;
+            }
+        }
+        Err(fault) => write!(out, "{fault:?}")?,
+    }
+    Ok(out)
+}
+
+#[test]
+fn split_calls_stand_on_their_lines(rt: HostRuntime) -> Result<(), AllocError> {
+    assert_eq!(rt; splits_in(rt.alloc(), SPLIT)?.as_str(), "4 8 ");
+    assert_eq!(rt; splits_in(rt.alloc(), WAVE)?.as_str(), "");
     Ok(())
 }

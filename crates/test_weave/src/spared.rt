@@ -1,7 +1,8 @@
 //! What is emitted by exact activity, and by flags that are given of what is kept, saved and needed.
 
-ghost use Rattle.std.specs.Prelude.{◌≡◌, ◌<◌, IfOk, length, map};
+ghost use Rattle.std.specs.Prelude.{◌≡◌, ◌<◌, ℕ, false, IfOk, length, map};
 ghost use Rattle.adj_tree.specs.View.{procedures_of};
+ghost use Rattle.adj_reach.specs.Edges.{flag};
 ghost use Rattle.adj_symbols.specs.Checked.{IsWrittenIfNamed};
 ghost use Rattle.def_names.specs.Fault.{run_rules};
 ghost use Rattle.law_emitted.specs.Checked.{IsChecked};
@@ -61,7 +62,7 @@ pub(crate) struct Given<'a> {
     pub saved: &'a [u8],
 }
 
-// The text of what is emitted for a checked program in kernel form, of which this is the flow.
+// The text of what is emitted for a checked program in kernel form, of which this is the flow, where no call is split.
 fn emitted(
     alloc: Global,
     checked: &Checked,
@@ -72,6 +73,7 @@ fn emitted(
     requires head { head.now.unit < length checked.now.program.units }
     requires checked { IsChecked run_rules (procedures_of checked.now.program) }
     requires flow { IsFlowOf (procedures_of checked.now.program) head.now.unit flow.now }
+    requires unsplit { (n : ℕ) → flag flow.now.split n ≡ false }
 {
     let activity = activity(alloc, flow, head)?;
     let marks = Marks {
@@ -106,7 +108,7 @@ fn answer(alloc: Global, checked: &Checked, given: Given<'_>) -> Result<Vec<u8>,
     if units.len() == 0 || units.len() == usize::MAX || !is_kernel(program) {
         return Ok(Vec::new(alloc));
     }
-    let flow = flow(alloc, units, variables.as_slice(), 0)?;
+    let flow = flow(alloc, units, variables.as_slice(), 0, &[])?;
     emitted(alloc, checked, &flow, &head, given)
 }
 

@@ -53,7 +53,7 @@ fn answer(
     if units.len() == 0 || units.len() == usize::MAX || !is_kernel(program) {
         return Ok(Vec::new(alloc));
     }
-    let flow = flow(alloc, units, variables.as_slice(), 0)?;
+    let flow = flow(alloc, units, variables.as_slice(), 0, &[])?;
     let carried = flags(alloc, carried)?;
     emitted(alloc, checked, &flow, &head, &carried)
 }

@@ -14,6 +14,6 @@ pub returns-clause-transformed : goal.returns-clause-transformed
 returns-clause-transformed c =
     let ps = procedures_of c.args.program.program in
     let accepted : IsAccepted ps = record { written = c.requires.written; sound = c.requires.sound } in
-    λ bytes few reads given done.
-    head_transforms (request_of c.args.request.now) ps c.args.head c.requires.sound_head c.requires.head accepted c.emitted_law.ensures.reversed_runnable c.limits_law.ensures.runnable c.reading_law.ensures.program c.args.wanted c.in_ok-answer.answer.text.items
-    (c.in_ok-answer.ensures.reads_back done) bytes few reads given
+    λ bytes few marked reads given done.
+    head_transforms (request_of c.args.request.now) ps c.args.head c.requires.sound_head c.requires.head accepted c.emitted_law.ensures.reversed_runnable c.limits_law.ensures.runnable c.reading_law.ensures.program c.args.wanted c.args.splits.now c.in_ok-answer.answer.text.items
+    (c.in_ok-answer.ensures.reads_back done) bytes few marked reads given

@@ -23,7 +23,7 @@ pub returns-then-not-fits-clause-answer : goal.returns-then-not-fits-clause-answ
 returns-then-not-fits-clause-answer c =
     let ps = procedures_of c.args.program.program in
     let large : kernel_fits (kernel_of ps) ≡ false = search rules in
-    subst (λ b. IfOk c.too_large.result (λ a. AnswersFitted b c.args.wanted ps c.args.name.now c.args.head (answer_of a))) (sym large) c.too_large.ensures
+    subst (λ b. IfOk c.too_large.result (λ a. AnswersFitted b c.args.wanted c.args.splits.now ps c.args.name.now c.args.head (answer_of a))) (sym large) c.too_large.ensures
 
 pub returns-clause-answer : goal.returns-clause-answer
 returns-clause-answer c =
@@ -32,10 +32,10 @@ returns-clause-answer c =
     let w = c.args.wanted in
     let text = c.in_ok-text.text.items in
     let is = c.unit_number-unit.ensures ∙ ap (λ q. unit_number (procedures_of q) c.args.name.now) c.program.ensures.program in
-    let x = for_kernel ps c.in_ok-kernel.kernel.program c.in_ok-kernel.ensures.kernel (λ us k. IsTextFor w us k text) c.args.name.now c.unit_number-unit.result is h.vars h.outvars c.in_ok-text.ensures.text in
+    let x = for_kernel ps c.in_ok-kernel.kernel.program c.in_ok-kernel.ensures.kernel (λ us k. IsTextFor w c.args.splits.now us k text) c.args.name.now c.unit_number-unit.result is h.vars h.outvars c.in_ok-text.ensures.text in
     let a : Answer = record { status = 0; text = c.in_ok-text.text.items } in
     let fits : kernel_fits (kernel_of ps) ≡ true = search rules in
-    subst (λ b. AnswersFitted b w ps c.args.name.now h a) (sym fits) (text_given ps c.args.name.now h c.requires.accepted w text x a refl refl)
+    subst (λ b. AnswersFitted b w c.args.splits.now ps c.args.name.now h a) (sym fits) (text_given c.args.splits.now ps c.args.name.now h c.requires.accepted w text x a refl refl)
 
 pub returns-clause-reads_back : goal.returns-clause-reads_back
 returns-clause-reads_back c =
@@ -44,6 +44,6 @@ returns-clause-reads_back c =
     let w = c.args.wanted in
     let text = c.in_ok-text.text.items in
     let is = c.unit_number-unit.ensures ∙ ap (λ q. unit_number (procedures_of q) c.args.name.now) c.program.ensures.program in
-    let x = for_kernel ps c.in_ok-kernel.kernel.program c.in_ok-kernel.ensures.kernel (λ us k. IsTextFor w us k text) c.args.name.now c.unit_number-unit.result is h.vars h.outvars c.in_ok-text.ensures.text in
+    let x = for_kernel ps c.in_ok-kernel.kernel.program c.in_ok-kernel.ensures.kernel (λ us k. IsTextFor w c.args.splits.now us k text) c.args.name.now c.unit_number-unit.result is h.vars h.outvars c.in_ok-text.ensures.text in
     let fits : kernel_fits (kernel_of ps) ≡ true = search rules in
-    λ done. text_reads ps c.args.name.now h c.requires.accepted fits w text x
+    λ done. text_reads c.args.splits.now ps c.args.name.now h c.requires.accepted fits w text x

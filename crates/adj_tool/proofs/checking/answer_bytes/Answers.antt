@@ -6,7 +6,7 @@ use Rattle.adj_tool.proofs.checking.answer_bytes.Goals as goal
 
 pub returns-in-Ok-clause-answer : goal.returns-in-Ok-clause-answer
 returns-in-Ok-clause-answer c =
-    checked (asked_of c.args.request.now.run) c.args.request.now.vars c.args.request.now.outvars c.args.bytes.now c.requires (Ok (procedures_of c.in-Ok.program)) c.in-Ok.ensures.is c.answer_program.result c.answer_program.ensures.answer
+    checked (asked_of c.args.request.now.run) c.args.request.now.vars c.args.request.now.outvars c.args.bytes.now c.requires (Ok (procedures_of c.in-Ok.reading.program)) c.in-Ok.ensures.is c.answer_program.result c.answer_program.ensures.answer
 
 pub returns-in-Err-Refused-clause-answer : goal.returns-in-Err-Refused-clause-answer
 returns-in-Err-Refused-clause-answer c =

@@ -63,10 +63,10 @@ check_answer-requires-clause-emitted c = λ v at.
     let there = head_there ps r.run.head r.vars r.outvars c.requires.sound_head in
     let lowered = c.in_ok-kernel.ensures.kernel ∙ ap (λ q. kernel_of (procedures_of q)) c.program.ensures.program in
     let e = c.in_ok-emitted.emitted in
-    let own = for_kernel ps c.in_ok-kernel.kernel.program lowered (λ us k. IsKnownFor us k (procedures_of e.program) e.adjoint e.shadowed) r.run.head c.unit_number.result
+    let own = for_kernel ps c.in_ok-kernel.kernel.program lowered (λ us k. IsKnownFor c.args.splits.now us k (procedures_of e.program) e.adjoint e.shadowed) r.run.head c.unit_number.result
     (c.unit_number.ensures ∙ ap (λ q. unit_number (procedures_of q) r.run.head) c.program-2.ensures.program) h.vars h.outvars c.in_ok-emitted.ensures.known in
     let fits : kernel_fits (kernel_of ps) ≡ true = search rules in
-    let x = checks.emitted_for ps r.run.head h accepted (procedures_of e.program) e.adjoint e.shadowed own (lines_apart c.args.bytes.now ps c.requires.few c.requires.reads) there.unit there.found c.emitted_law.ensures.reversed_runnable fits c.args.bytes.now c.requires.given in
+    let x = checks.emitted_for c.args.splits.now ps r.run.head h accepted (procedures_of e.program) e.adjoint e.shadowed own (lines_apart c.args.bytes.now ps c.requires.few c.requires.reads) there.unit there.found c.emitted_law.ensures.reversed_runnable fits c.args.bytes.now c.requires.given in
     subst (λ n. IsEmittedFor ps n h.vars h.outvars (procedures_of e.program) e.adjoint e.shadowed) (sym (checks.name_is ps r.run.head r.vars r.outvars c.requires.sound_head h c.requires.head v at)) x
 
 pub returns-then-not-fits-clause-answer : goal.returns-then-not-fits-clause-answer
@@ -74,7 +74,7 @@ returns-then-not-fits-clause-answer c =
     let ps = procedures_of c.args.program.now.program in
     let r = c.args.request.now in
     let large : kernel_fits (kernel_of ps) ≡ false = search rules in
-    subst (λ b. IfOk c.too_large.result (λ a. Fitted b (IsChecked ps c.args.head (asked_of r.run) c.args.bytes.now (answer_of a)) (answer_of a))) (sym large) c.too_large.ensures
+    subst (λ b. IfOk c.too_large.result (λ a. Fitted b (IsChecked c.args.splits.now ps c.args.head (asked_of r.run) c.args.bytes.now (answer_of a)) (answer_of a))) (sym large) c.too_large.ensures
 
 pub returns-clause-answer : goal.returns-clause-answer
 returns-clause-answer c =
@@ -85,16 +85,16 @@ returns-clause-answer c =
     let there = head_there ps r.run.head r.vars r.outvars c.requires.sound_head in
     let lowered = c.in_ok-kernel.ensures.kernel ∙ ap (λ q. kernel_of (procedures_of q)) c.program.ensures.program in
     let e = c.in_ok-emitted.emitted in
-    let own = for_kernel ps c.in_ok-kernel.kernel.program lowered (λ us k. IsKnownFor us k (procedures_of e.program) e.adjoint e.shadowed) r.run.head c.unit_number.result
+    let own = for_kernel ps c.in_ok-kernel.kernel.program lowered (λ us k. IsKnownFor c.args.splits.now us k (procedures_of e.program) e.adjoint e.shadowed) r.run.head c.unit_number.result
     (c.unit_number.ensures ∙ ap (λ q. unit_number (procedures_of q) r.run.head) c.program-2.ensures.program) h.vars h.outvars c.in_ok-emitted.ensures.known in
     let few : Fits c.in_ok-kernel.kernel = search rules in
     let fits = fits_known c.in_ok-kernel.kernel (kernel_of ps) lowered c.program-2.ensures.facts few in
     let apart = lines_apart c.args.bytes.now ps c.requires.few c.requires.reads in
-    let x = checks.emitted_for ps r.run.head h accepted (procedures_of e.program) e.adjoint e.shadowed own apart there.unit there.found c.emitted_law.ensures.reversed_runnable fits c.args.bytes.now c.requires.given in
+    let x = checks.emitted_for c.args.splits.now ps r.run.head h accepted (procedures_of e.program) e.adjoint e.shadowed own apart there.unit there.found c.emitted_law.ensures.reversed_runnable fits c.args.bytes.now c.requires.given in
     let is = c.in_ok-answer.ensures.answer there.unit _ (checks.unit_at ps r.run.head r.vars r.outvars c.requires.sound_head h c.requires.head)
-    (checks.adjoint_there ps r.run.head h accepted (procedures_of e.program) e.adjoint e.shadowed own apart there.unit there.found x.runnable) in
-    subst (λ b. Fitted b (IsChecked ps h (asked_of r.run) c.args.bytes.now (answer_of c.in_ok-answer.answer)) (answer_of c.in_ok-answer.answer)) (sym fits)
-    (checks.is_checked (asked_of r.run) r.vars r.outvars ps accepted c.program.ensures.facts.sound apart c.requires.sound_head h c.requires.head (procedures_of e.program) e.adjoint e.shadowed own x.runnable c.reading_law.ensures.program c.check_law.ensures.traps c.args.bytes.now (answer_of c.in_ok-answer.answer) is)
+    (checks.adjoint_there c.args.splits.now ps r.run.head h accepted (procedures_of e.program) e.adjoint e.shadowed own apart there.unit there.found x.runnable) in
+    subst (λ b. Fitted b (IsChecked c.args.splits.now ps h (asked_of r.run) c.args.bytes.now (answer_of c.in_ok-answer.answer)) (answer_of c.in_ok-answer.answer)) (sym fits)
+    (checks.is_checked (asked_of r.run) r.vars r.outvars c.args.splits.now ps accepted c.program.ensures.facts.sound apart c.requires.sound_head h c.requires.head (procedures_of e.program) e.adjoint e.shadowed own x.runnable c.reading_law.ensures.program c.check_law.ensures.traps c.args.bytes.now (answer_of c.in_ok-answer.answer) is)
 
 pub returns-clause-compared : goal.returns-clause-compared
 returns-clause-compared c =
@@ -105,12 +105,12 @@ returns-clause-compared c =
     let there = head_there ps r.run.head r.vars r.outvars c.requires.sound_head in
     let lowered = c.in_ok-kernel.ensures.kernel ∙ ap (λ q. kernel_of (procedures_of q)) c.program.ensures.program in
     let e = c.in_ok-emitted.emitted in
-    let own = for_kernel ps c.in_ok-kernel.kernel.program lowered (λ us k. IsKnownFor us k (procedures_of e.program) e.adjoint e.shadowed) r.run.head c.unit_number.result
+    let own = for_kernel ps c.in_ok-kernel.kernel.program lowered (λ us k. IsKnownFor c.args.splits.now us k (procedures_of e.program) e.adjoint e.shadowed) r.run.head c.unit_number.result
     (c.unit_number.ensures ∙ ap (λ q. unit_number (procedures_of q) r.run.head) c.program-2.ensures.program) h.vars h.outvars c.in_ok-emitted.ensures.known in
     let few : Fits c.in_ok-kernel.kernel = search rules in
     let fits = fits_known c.in_ok-kernel.kernel (kernel_of ps) lowered c.program-2.ensures.facts few in
     let apart = lines_apart c.args.bytes.now ps c.requires.few c.requires.reads in
-    let x = checks.emitted_for ps r.run.head h accepted (procedures_of e.program) e.adjoint e.shadowed own apart there.unit there.found c.emitted_law.ensures.reversed_runnable fits c.args.bytes.now c.requires.given in
+    let x = checks.emitted_for c.args.splits.now ps r.run.head h accepted (procedures_of e.program) e.adjoint e.shadowed own apart there.unit there.found c.emitted_law.ensures.reversed_runnable fits c.args.bytes.now c.requires.given in
     let is = c.in_ok-answer.ensures.answer there.unit _ (checks.unit_at ps r.run.head r.vars r.outvars c.requires.sound_head h c.requires.head)
-    (checks.adjoint_there ps r.run.head h accepted (procedures_of e.program) e.adjoint e.shadowed own apart there.unit there.found x.runnable) in
-    checks.is_compared (asked_of r.run) r.vars r.outvars ps accepted c.program.ensures.facts.sound apart c.requires.sound_head h c.requires.head (procedures_of e.program) e.adjoint e.shadowed own x.runnable c.reading_law.ensures.program c.check_law.ensures.agrees c.args.bytes.now c.requires.reads (blocks_kept source_rules Source c.args.bytes.now ps c.requires.given c.requires.sound c.requires.reads) (answer_of c.in_ok-answer.answer) is
+    (checks.adjoint_there c.args.splits.now ps r.run.head h accepted (procedures_of e.program) e.adjoint e.shadowed own apart there.unit there.found x.runnable) in
+    checks.is_compared (asked_of r.run) r.vars r.outvars c.args.splits.now ps accepted c.program.ensures.facts.sound apart c.requires.sound_head h c.requires.head (procedures_of e.program) e.adjoint e.shadowed own x.runnable c.reading_law.ensures.program c.check_law.ensures.agrees c.args.bytes.now c.requires.reads (blocks_kept source_rules Source c.args.bytes.now ps c.requires.given c.requires.sound c.requires.reads) c.requires.splits (answer_of c.in_ok-answer.answer) is
