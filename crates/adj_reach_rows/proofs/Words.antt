@@ -1,0 +1,171 @@
+-- Bits of words.
+use Rattle.std.proofs.Common.{◌≡◌, ℕ, ◌+◌, ◌-◌, ◌*◌, ◌/◌, ◌%◌, ◌^◌, ◌<◌, ◌≤◌, ◌⊎◌, inl, inr, min, max, Bool, true, false, List, length, get_or, set, bit_and, bit_or, refl, sym, ap, ◌∙◌, eqb-true, eq-eqb, true≢false, arith}
+use Rattle.std.specs.Prelude.{◌==◌, if◌then◌else◌}
+use Rattle.std.specs.Int.{bit_at, bit_not, w64}
+use Rattle.std.proofs.lemmas.Nat.{one_shl, pow_below}
+use Rattle.std.proofs.lemmas.Nat.Bits.{bit_at-lt, bit_at-zero, bit_at_and, bit_at_or, bit_at_not, bit_at-pow_same, bit_at-pow_other, bit_at_ones, bit_at_set_same, bit_at_set_other, bit_at_above, same_from_bits}
+use Rattle.std.specs.Int.Bits.{or_add_and}
+use Rattle.std.proofs.lemmas.Bool.{cases_lt, cases_eq}
+use Rattle.std.proofs.lemmas.List.{get_or-set_same, get_or-set_other, get_or_past}
+use Rattle.adj_reach_rows.specs.Bits.{bit}
+
+-- ---- one word is written
+
+pub bit_set_same : (ws : List ℕ) (i v n : ℕ) → i < length ws → n / 64 ≡ i → bit (set ws i v) n ≡ bit_at v (n % 64)
+bit_set_same ws i v n l e = ap (λ z. bit_at z (n % 64)) (ap (λ k. get_or (set ws i v) k 0) e ∙ get_or-set_same ws i v 0 l)
+
+pub bit_set_other : (ws : List ℕ) (i v n : ℕ) → (n / 64 ≡ i → ⊥) → bit (set ws i v) n ≡ bit ws n
+bit_set_other ws i v n f = ap (λ z. bit_at z (n % 64)) (get_or-set_other ws i (n / 64) v 0 f)
+
+-- past the end there is no bit
+pub bit_past : (ws : List ℕ) (n : ℕ) → length ws ≤ n / 64 → bit ws n ≡ 0
+bit_past ws n l = ap (λ z. bit_at z (n % 64)) (get_or_past ws (n / 64) 0 l) ∙ bit_at-zero (n % 64)
+
+-- so a bit that is set is within
+pub bit_within : (ws : List ℕ) (n : ℕ) → bit ws n ≡ 1 → n / 64 < length ws
+bit_within ws n h = go (cases_lt (n / 64) (length ws))
+  where
+    go : (n / 64 < length ws) ⊎ (length ws ≤ n / 64) → n / 64 < length ws
+    go (inl l) = l
+    go (inr l) = let e : bit ws n ≡ 0 = bit_past ws n l in absurd (omega (arith, h))
+
+-- ---- the bit of a column is set
+
+pub bit_put : (ws : List ℕ) (first c n : ℕ) → first + c / 64 < length ws →
+    bit (set ws (first + c / 64) (bit_or (get_or ws (first + c / 64) 0) (1 * 2 ^ (c % 64) % 2 ^ 64))) n ≡ (if n == first * 64 + c then 1 else bit ws n)
+bit_put ws first c n l = go (n == first * 64 + c) refl
+  where
+    v : ℕ
+    v = bit_or (get_or ws (first + c / 64) 0) (1 * 2 ^ (c % 64) % 2 ^ 64)
+
+    go : (b : Bool) → (n == first * 64 + c) ≡ b → bit (set ws (first + c / 64) v) n ≡ (if b then 1 else bit ws n)
+    go true e =
+        let q : n ≡ first * 64 + c = eqb-true n (first * 64 + c) e in
+        let p : n / 64 ≡ first + c / 64 = omega (arith, q) in
+        let r : n % 64 ≡ c % 64 = omega (arith, q) in
+        let k : c % 64 < 64 = omega arith in
+        bit_set_same ws (first + c / 64) v n l p ∙ ap (bit_at v) r ∙ bit_at_set_same w64 (get_or ws (first + c / 64) 0) (c % 64) k
+    go false e = by (cases_eq (n / 64) (first + c / 64))
+      where
+        k : c % 64 < 64
+        k = omega arith
+
+        by : (n / 64 ≡ first + c / 64) ⊎ (n / 64 ≡ first + c / 64 → ⊥) → bit (set ws (first + c / 64) v) n ≡ bit ws n
+        by (inl p) =
+            let f : n % 64 ≡ c % 64 → ⊥ = λ r. true≢false (sym (eq-eqb n (first * 64 + c) (omega (arith, p, r))) ∙ e) in
+            bit_set_same ws (first + c / 64) v n l p ∙ bit_at_set_other w64 (get_or ws (first + c / 64) 0) (c % 64) k (n % 64) f ∙ ap (λ z. bit_at (get_or ws z 0) (n % 64)) (sym p)
+        by (inr p) = bit_set_other ws (first + c / 64) v n p
+
+-- ---- the words of what isn't left
+
+pub ones_bit : (k : ℕ) → k < 64 → bit_at (2 ^ 64 - 1) k ≡ 1
+ones_bit k l = bit_at_ones 64 k l
+
+-- all bits but one
+pub but_one : (v j : ℕ) → v / 64 ≡ j / 64 → bit_at (bit_not w64 (1 * 2 ^ (v % 64) % 2 ^ 64)) (j % 64) ≡ (if v == j then 0 else 1)
+but_one v j e = go (v == j) refl
+  where
+    k : v % 64 < 64
+    k = omega arith
+
+    one : 1 * 2 ^ (v % 64) % 2 ^ 64 ≡ 2 ^ (v % 64)
+    one = one_shl (v % 64) 64 k
+
+    bits : bit_at (bit_not w64 (1 * 2 ^ (v % 64) % 2 ^ 64)) (j % 64) ≡ 1 - bit_at (2 ^ (v % 64)) (j % 64)
+    bits = ap (λ z. bit_at (bit_not w64 z) (j % 64)) one ∙ bit_at_not w64 (2 ^ (v % 64)) (j % 64) (pow_below (v % 64) 64 k) (omega arith)
+
+    go : (b : Bool) → (v == j) ≡ b → bit_at (bit_not w64 (1 * 2 ^ (v % 64) % 2 ^ 64)) (j % 64) ≡ (if b then 0 else 1)
+    go true q =
+        let p : v ≡ j = eqb-true v j q in
+        bits ∙ ap (λ z. 1 - bit_at (2 ^ (v % 64)) (z % 64)) (sym p) ∙ ap (λ z. 1 - z) (bit_at-pow_same (v % 64))
+    go false q =
+        let f : j % 64 ≡ v % 64 → ⊥ = λ r. true≢false (sym (eq-eqb v j (omega (arith, e, r))) ∙ q) in
+        bits ∙ ap (λ z. 1 - z) (bit_at-pow_other (v % 64) (j % 64) f)
+
+-- what stands in another word is another
+pub other_word : (v j w : ℕ) → (v / 64 ≡ w → ⊥) → j / 64 ≡ w → (v == j) ≡ false
+other_word v j w f e = go (v == j) refl
+  where
+    go : (b : Bool) → (v == j) ≡ b → b ≡ false
+    go true q = let p : v ≡ j = eqb-true v j q in absurd (f (ap (λ z. z / 64) p ∙ e))
+    go false q = refl
+
+-- ---- a word is joined with another
+
+pub or_keeps : (ws : List ℕ) (w v n : ℕ) → w < length ws → bit ws n ≡ 1 → bit (set ws w (bit_or (get_or ws w 0) v)) n ≡ 1
+or_keeps ws w v n l h = go (cases_eq (n / 64) w)
+  where
+    go : (n / 64 ≡ w) ⊎ (n / 64 ≡ w → ⊥) → bit (set ws w (bit_or (get_or ws w 0) v)) n ≡ 1
+    go (inl p) =
+        let a : bit_at (get_or ws w 0) (n % 64) ≡ 1 = ap (λ z. bit_at (get_or ws z 0) (n % 64)) (sym p) ∙ h in
+        let b : bit_at (bit_or (get_or ws w 0) v) (n % 64) ≡ max (bit_at (get_or ws w 0) (n % 64)) (bit_at v (n % 64)) = bit_at_or (get_or ws w 0) v (n % 64) in
+        let c : bit_at v (n % 64) < 2 = bit_at-lt v (n % 64) in
+        bit_set_same ws w (bit_or (get_or ws w 0) v) n l p ∙ omega (arith, a, b, c)
+    go (inr p) = bit_set_other ws w (bit_or (get_or ws w 0) v) n p ∙ h
+
+pub or_has : (ws : List ℕ) (w v n : ℕ) → w < length ws → n / 64 ≡ w → bit_at v (n % 64) ≡ 1 → bit (set ws w (bit_or (get_or ws w 0) v)) n ≡ 1
+or_has ws w v n l p h =
+    let b : bit_at (bit_or (get_or ws w 0) v) (n % 64) ≡ max (bit_at (get_or ws w 0) (n % 64)) (bit_at v (n % 64)) = bit_at_or (get_or ws w 0) v (n % 64) in
+    let c : bit_at (get_or ws w 0) (n % 64) < 2 = bit_at-lt (get_or ws w 0) (n % 64) in
+    bit_set_same ws w (bit_or (get_or ws w 0) v) n l p ∙ omega (arith, h, b, c)
+
+pub or_only : (ws : List ℕ) (w v n : ℕ) → w < length ws → bit (set ws w (bit_or (get_or ws w 0) v)) n ≡ 1 → (bit ws n ≡ 1) ⊎ ((n / 64 ≡ w) × (bit_at v (n % 64) ≡ 1))
+or_only ws w v n l h = go (cases_eq (n / 64) w)
+  where
+    go : (n / 64 ≡ w) ⊎ (n / 64 ≡ w → ⊥) → (bit ws n ≡ 1) ⊎ ((n / 64 ≡ w) × (bit_at v (n % 64) ≡ 1))
+    go (inl p) = by (cases_eq (bit_at v (n % 64)) 1)
+      where
+        by : (bit_at v (n % 64) ≡ 1) ⊎ (bit_at v (n % 64) ≡ 1 → ⊥) → (bit ws n ≡ 1) ⊎ ((n / 64 ≡ w) × (bit_at v (n % 64) ≡ 1))
+        by (inl q) = inr (p, q)
+        by (inr q) =
+            let a : bit ws n ≡ bit_at (get_or ws w 0) (n % 64) = ap (λ z. bit_at (get_or ws z 0) (n % 64)) p in
+            let b : bit_at (bit_or (get_or ws w 0) v) (n % 64) ≡ max (bit_at (get_or ws w 0) (n % 64)) (bit_at v (n % 64)) = bit_at_or (get_or ws w 0) v (n % 64) in
+            let c : bit_at v (n % 64) < 2 = bit_at-lt v (n % 64) in
+            let d : bit_at (bit_or (get_or ws w 0) v) (n % 64) ≡ 1 = sym (bit_set_same ws w (bit_or (get_or ws w 0) v) n l p) ∙ h in
+            inl (a ∙ omega (arith, b, c, d, q))
+    go (inr p) = inl (sym (bit_set_other ws w (bit_or (get_or ws w 0) v) n p) ∙ h)
+
+-- ---- the bits of one number that another lacks
+
+module _ (bits s : ℕ) (low : s < 2 ^ 64) where
+  abbrev pub lacking : ℕ
+  lacking = bit_and bits (bit_not w64 s)
+
+  lacking_bit : (k : ℕ) → k < 64 → bit_at lacking k ≡ min (bit_at bits k) (1 - bit_at s k)
+  lacking_bit k l = bit_at_and bits (bit_not w64 s) k ∙ ap (λ z. min (bit_at bits k) z) (bit_at_not w64 s k low l)
+
+  -- a bit is among them or the other has it
+  pub lacks : (k : ℕ) → k < 64 → bit_at bits k ≡ 1 → (bit_at s k ≡ 1) ⊎ (bit_at lacking k ≡ 1)
+  lacks k l h = go (cases_eq (bit_at s k) 1)
+    where
+      go : (bit_at s k ≡ 1) ⊎ (bit_at s k ≡ 1 → ⊥) → (bit_at s k ≡ 1) ⊎ (bit_at lacking k ≡ 1)
+      go (inl p) = inl p
+      go (inr p) = inr (let a : bit_at s k < 2 = bit_at-lt s k in let b : bit_at lacking k ≡ min (bit_at bits k) (1 - bit_at s k) = lacking_bit k l in omega (arith, a, b, h, p))
+
+  pub lacking_only : (k : ℕ) → k < 64 → bit_at lacking k ≡ 1 → bit_at bits k ≡ 1
+  lacking_only k l h =
+      let a : bit_at bits k < 2 = bit_at-lt bits k in
+      let b : bit_at lacking k ≡ min (bit_at bits k) (1 - bit_at s k) = lacking_bit k l in
+      omega (arith, a, b, h)
+
+  -- they are apart from it
+  apart : bit_and s lacking ≡ 0
+  apart = same_from_bits (bit_and s lacking) 0 (λ k. go k (cases_lt k 64) ∙ sym (bit_at-zero k))
+    where
+      go : (k : ℕ) → (k < 64) ⊎ (64 ≤ k) → bit_at (bit_and s lacking) k ≡ 0
+      go k (inl l) =
+          let a : bit_at (bit_and s lacking) k ≡ min (bit_at s k) (bit_at lacking k) = bit_at_and s lacking k in
+          let b : bit_at lacking k ≡ min (bit_at bits k) (1 - bit_at s k) = lacking_bit k l in
+          let d : bit_at s k < 2 = bit_at-lt s k in
+          omega (arith, a, b, d)
+      go k (inr l) =
+          let a : bit_at (bit_and s lacking) k ≡ min (bit_at s k) (bit_at lacking k) = bit_at_and s lacking k in
+          let b : bit_at s k ≡ 0 = bit_at_above s 64 k low l in
+          omega (arith, a, b)
+
+  -- so with them it is greater
+  pub joined_more : (lacking ≡ 0 → ⊥) → s < bit_or s lacking
+  joined_more f =
+      let a : bit_or s lacking + bit_and s lacking ≡ s + lacking = or_add_and s lacking in
+      let b : bit_and s lacking ≡ 0 = apart in
+      omega (arith, a, b, f)

@@ -1,0 +1,72 @@
+//! The flags of nodes.
+
+ghost use Rattle.std.specs.Prelude.{◌≡◌, ◌+◌, ◌*◌, ◌/◌, ◌<◌, ◌≤◌, ◌==◌, ◌⊎◌, ℕ, IfOk, false, length};
+ghost use Rattle.std.specs.Int.{bit_at};
+ghost use Rattle.adj_reach.specs.Edges.{flag};
+ghost use Rattle.adj_reach_rows.specs.Bits.{bit};
+ghost use Rattle.adj_reach_rows.specs.Searches.{place_of};
+
+use adj_tree::{Flags, Memory};
+use std::alloc::Global;
+
+// Whether a word has a bit.
+fn has(word: u64, column: usize) -> bool
+    requires { column < 64 }
+    ensures { result ≡ (bit_at word column == 1) }
+{
+    word >> column & 1 == 1
+}
+
+// Sets the flags of the first columns of a word.
+fn set_word(flags: &mut [bool], at: usize, word: u64, columns: usize)
+    requires few { columns ≤ 64 }
+    requires within { at + columns ≤ length flags.old }
+    ensures count { length flags.new ≡ length flags.old }
+    ensures others { (x : ℕ) → (x < at) ⊎ (at + columns ≤ x) → flag flags.new x ≡ flag flags.old x }
+    ensures word { (j : ℕ) → j < columns → flag flags.new (at + j) ≡ (bit_at word j == 1) }
+{
+    for column in 0..columns {
+        flags[at + column] = has(word, column);
+    }
+}
+
+// Sets the flags of a row, whose words begin at one of some. None is set from there on.
+fn set_row(flags: &mut [bool], at: usize, words: &[u64], first: usize, width: usize)
+    requires row { first + width / 64 < length words.now }
+    requires within { at + width ≤ length flags.old }
+    requires fresh { (x : ℕ) → at ≤ x → flag flags.old x ≡ false }
+    ensures count { length flags.new ≡ length flags.old }
+    ensures before { (x : ℕ) → x < at → flag flags.new x ≡ flag flags.old x }
+    ensures row { (j : ℕ) → j < width → flag flags.new (at + j) ≡ (bit words.now (first * 64 + j) == 1) }
+    ensures behind { (x : ℕ) → at + width ≤ x → flag flags.new x ≡ false }
+{
+    for place in 0..width / 64 + 1 {
+        let word = words[first + place];
+        let passed = place * 64;
+        if word != 0 {
+            set_word(flags, at + passed, word, (width - passed).min(64));
+        }
+    }
+}
+
+/// A flag for each node of some rows of words.
+pub(crate) fn flags(
+    alloc: Global,
+    rows: usize,
+    words: usize,
+    width: usize,
+    bits: &[u64],
+) -> Result<Flags, Memory>
+    requires some { 0 < width }
+    requires wide { width < 64 * words }
+    requires size { length bits.now ≡ rows * words }
+    ensures count { IfOk result (λ f. length f ≡ rows * width) }
+    ensures flags { IfOk result (λ f. (x : ℕ) → x < rows * width → flag f x ≡ (bit bits.now (place_of width words x) == 1)) }
+{
+    let all = rows.checked_mul(width).ok_or(Memory)?;
+    let mut flags = vec![in alloc; false; all]?;
+    for row in 0..rows {
+        set_row(flags.as_mut_slice(), row * width, bits, row * words, width);
+    }
+    Ok(Flags::new(flags))
+}
