@@ -10,3 +10,5 @@ pub mod Holding
 pub mod Flowing
 pub mod Started
 pub mod Answering
+mod Arcs
+mod Seeing

@@ -1,5 +1,5 @@
 -- Where the steps of each rule begin, as the code goes over the units.
-use Rattle.std.specs.Prelude.{ℕ, List, map, flat_map, Bool, true, false, ◌&&◌, Option, Some, None}
+use Rattle.std.specs.Prelude.{◌≡◌, ℕ, ◌+◌, ◌*◌, ◌<◌, List, length, map, flat_map, Bool, true, false, ◌&&◌, Option, Some, None}
 use Rattle.std.specs.Borrow.{Bor}
 use Rattle.adj_tree.specs.Code.{plain, Terms, none, more}
 use Rattle.def_flow.specs.Standing.{Standing}
@@ -23,6 +23,15 @@ point_nodes w r p flags = flat_map (λ d. list_of (node_in w (vars_of r) (p, pla
 abbrev pub is_useful_in : Option (Bor (List Bool)) → ℕ → Row → Vars
 is_useful_in None w r v = true
 is_useful_in (Some useful) w r v = somewhere r.ways (λ p. told_at useful.now w r p v)
+
+-- by the places of the variables of a unit, whether they are flagged somewhere in it
+abbrev pub AreSeen : List Bool → List Bool → ℕ → Row → Type 0
+AreSeen seen flags w r = (j : ℕ) → j < length r.variables → flag seen j ≡ somewhere r.ways (λ p. flag flags (p * w + j))
+
+-- and whether they are useful there; without flags they are
+abbrev pub AreUseful : List Bool → Option (Bor (List Bool)) → ℕ → Row → Type 0
+AreUseful seen None w r = (j : ℕ) → j < length r.variables → flag seen j ≡ true
+AreUseful seen (Some useful) w r = AreSeen seen useful.now w r
 
 -- the variables of a unit that are varied and useful somewhere in it
 abbrev pub active_nodes : List Bool → Option (Bor (List Bool)) → ℕ → Row → List ℕ

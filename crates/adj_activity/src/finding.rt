@@ -8,15 +8,19 @@ ghost use Rattle.adj_activity.specs.View.{flow_listed, shadows_listed, adjoints_
 ghost use Rattle.adj_activity.specs.Starts.{point_nodes, all_active, all_outright};
 ghost use Rattle.adj_activity.specs.Carried.{AreCarried};
 ghost use Rattle.adj_flow.specs.Asked.{IsFlow, problem_of};
+ghost use Rattle.adj_flow.specs.UnitRows.{AreNumbered};
+ghost use Rattle.adj_activity.specs.Arcs.{AreAlong};
 ghost use Rattle.adj_flow.specs.Marked.{activity_of};
 
 use crate::adjointed::outright;
+use crate::along::{Along, steps_of_flow};
 use crate::found::{Found, Sets};
 use crate::listing::edges;
 use crate::starts::{add_all_active, add_flagged};
 use crate::steps::Steps;
 use adj_flow::{Flow, Part};
-use adj_reach::{reached, reached_back};
+use adj_reach::reached;
+use adj_reach_rows::{reached_back_by_rows, reached_by_rows};
 use adj_tree::{Activity, Flags, Head, Memory};
 use std::alloc::Global;
 
@@ -35,18 +39,50 @@ fn point_nodes(
     Ok(nodes)
 }
 
-// The varied variables, by the edges of flow.
+// The varied variables, by the steps of flow.
 fn varied(
     alloc: Global,
     flow: &Flow<'_>,
     part: &Part<'_>,
     head: &Head,
-    edges: &[(usize, usize)],
+    along: &Along,
 ) -> Result<Flags, Memory>
-    ensures varied { IfOk result (λ f. (m : ℕ) → IsTrue (flag f m) ↔ ReachedFrom edges.now (point_nodes flow.now.width (row_of part.now) (row_of part.now).part.entry head.now.vars) m) }
+    requires flow { AreNumbered flow.now flow.now.width }
+    requires along { AreAlong flow.now along.now }
+    ensures varied { IfOk result (λ f. (m : ℕ) → IsTrue (flag f m) ↔ ReachedFrom (flow_listed (map row_of flow.now.parts.items) flow.now.numbers flow.now.taking flow.now.width) (point_nodes flow.now.width (row_of part.now) (row_of part.now).part.entry head.now.vars) m) }
 {
     let entry = point_nodes(alloc, flow.width, part, part.entry, head.vars.as_slice())?;
-    reached(alloc, edges, entry.as_slice())
+    reached_by_rows(
+        alloc,
+        along.width,
+        &along.rows,
+        along.arcs.as_slice(),
+        along.edges.as_slice(),
+        entry.as_slice(),
+    )
+}
+
+// The useful variables, by the same steps.
+fn useful(
+    alloc: Global,
+    flow: &Flow<'_>,
+    part: &Part<'_>,
+    head: &Head,
+    along: &Along,
+) -> Result<Flags, Memory>
+    requires flow { AreNumbered flow.now flow.now.width }
+    requires along { AreAlong flow.now along.now }
+    ensures useful { IfOk result (λ f. (m : ℕ) → IsTrue (flag f m) ↔ ReachedBack (flow_listed (map row_of flow.now.parts.items) flow.now.numbers flow.now.taking flow.now.width) (point_nodes flow.now.width (row_of part.now) (row_of part.now).part.end head.now.outvars) m) }
+{
+    let end = point_nodes(alloc, flow.width, part, part.end, head.outvars.as_slice())?;
+    reached_back_by_rows(
+        alloc,
+        along.width,
+        &along.rows,
+        along.arcs.as_slice(),
+        along.edges.as_slice(),
+        end.as_slice(),
+    )
 }
 
 // The varied and the useful variables.
@@ -56,13 +92,13 @@ fn flowing(
     part: &Part<'_>,
     head: &Head,
 ) -> Result<(Flags, Flags), Memory>
+    requires { AreNumbered flow.now flow.now.width }
     ensures varied { IfOk result (λ f. (m : ℕ) → IsTrue (flag f.0 m) ↔ ReachedFrom (flow_listed (map row_of flow.now.parts.items) flow.now.numbers flow.now.taking flow.now.width) (point_nodes flow.now.width (row_of part.now) (row_of part.now).part.entry head.now.vars) m) }
     ensures useful { IfOk result (λ f. (m : ℕ) → IsTrue (flag f.1 m) ↔ ReachedBack (flow_listed (map row_of flow.now.parts.items) flow.now.numbers flow.now.taking flow.now.width) (point_nodes flow.now.width (row_of part.now) (row_of part.now).part.end head.now.outvars) m) }
 {
-    let edges = edges(alloc, flow, Steps::Flow)?;
-    let varied = varied(alloc, flow, part, head, edges.as_slice())?;
-    let end = point_nodes(alloc, flow.width, part, part.end, head.outvars.as_slice())?;
-    let useful = reached_back(alloc, edges.as_slice(), end.as_slice())?;
+    let along = steps_of_flow(alloc, flow)?;
+    let varied = varied(alloc, flow, part, head, &along)?;
+    let useful = useful(alloc, flow, part, head, &along)?;
     Ok((varied, useful))
 }
 
@@ -84,7 +120,7 @@ fn shadow_nodes(
         part.number,
         head.outvars.as_slice(),
     )?;
-    add_all_active(&mut nodes, flow, sets)?;
+    add_all_active(alloc, &mut nodes, flow, sets)?;
     Ok(nodes)
 }
 
@@ -148,8 +184,8 @@ pub fn carried(alloc: Global, flow: &Flow<'_>, head: &Head) -> Result<Flags, Mem
     ensures carried { IfOk result (λ f. AreCarried flow.now head.now f) }
 {
     let part = &flow.parts.as_slice()[head.unit];
-    let edges = edges(alloc, flow, Steps::Flow)?;
-    let varied = varied(alloc, flow, part, head, edges.as_slice())?;
+    let along = steps_of_flow(alloc, flow)?;
+    let varied = varied(alloc, flow, part, head, &along)?;
     // An actual lends only to a dummy that is varied at its unit's entry, and such a dummy carries one by itself.
     let sets = Sets {
         varied: varied.as_slice(),

@@ -1,13 +1,14 @@
 //! Activity: which variables are varied and useful, which have a shadow, and which statements an adjoint; and which variables carry a tangent.
 //!
 //! Variables at points, variables of units, and statements and units are nodes with numbers; edges between them are the steps of
-//! each rule (`specs/Edges.antt`), and one search finds what they reach. The crate stands on the definitions of `def_flow`, on
-//! `adj_flow` and on `adj_reach`; the layers above use that `activity` gives exactly the activity of a program, and `carried` exactly what
+//! each rule (`specs/Edges.antt`), and one search finds what they reach; flow goes along ways by arcs that carry all variables of a unit.
+//! The crate stands on the definitions of `def_flow`, on `adj_flow` and on `adj_reach_rows`; the layers above use that `activity` gives exactly the activity of a program, and `carried` exactly what
 //! carries a tangent (`def_tangent`).
 #![tactic(auto)]
 
 mod adjointed;
 mod adjoints;
+mod along;
 mod calls;
 mod finding;
 mod found;

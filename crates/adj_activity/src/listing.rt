@@ -1,4 +1,4 @@
-//! The edges of the units that take part.
+//! The edges of the units that take part, but for those of flow along ways on which no unit is called.
 
 ghost use Rattle.std.specs.Prelude.{◌≡◌, ◌++◌, IfOk, OnOk, map, flat_map};
 ghost use Rattle.def_names.specs.VariableLists.{list_if};
@@ -6,13 +6,14 @@ ghost use Rattle.adj_flow.specs.Rows.{row_of};
 ghost use Rattle.adj_symbols_writes.specs.Table.{value_of};
 ghost use Rattle.adj_flow.specs.View.{standing_of};
 ghost use Rattle.adj_flow.specs.NodeView.{found_at};
-ghost use Rattle.adj_activity.specs.View.{along_ways, standing_edges, row_edges, all_edges};
+ghost use Rattle.adj_activity.specs.View.{standing_edges};
+ghost use Rattle.adj_activity.specs.Arcs.{along_calls, other_edges, all_others};
 
 use crate::adjoints::add_made;
 use crate::calls::add_call;
 use crate::statements::add_assignment;
 use crate::steps::{Site, Steps};
-use crate::ways::add_ways;
+use crate::ways::add_call_ways;
 use adj_flow::actuals::Units;
 use adj_flow::{Flow, Standing};
 use adj_reach::flag_at;
@@ -55,16 +56,16 @@ fn add_statements(
     Ok(())
 }
 
-// Adds the edges of the ways of a unit, where steps go along them.
+// Adds the edges of the ways of a unit on which a unit is called, where steps go along them.
 fn add_along(
     alloc: Global,
     edges: &mut Vec<(usize, usize)>,
     site: Site<'_, '_, '_>,
 ) -> Result<(), Memory>
-    ensures added { OnOk result (edges.new.items ≡ edges.old.items ++ along_ways site.entry.steps site.entry.width (row_of site.entry.part.now)) }
+    ensures added { OnOk result (edges.new.items ≡ edges.old.items ++ along_calls site.entry.steps site.entry.width (row_of site.entry.part.now)) }
 {
     match site.steps {
-        Steps::Flow => add_ways(alloc, edges, site.width, site.part),
+        Steps::Flow => add_call_ways(alloc, edges, site.width, site.part),
         Steps::Shadows(_) | Steps::Adjoints => Ok(()),
     }
 }
@@ -77,7 +78,7 @@ fn add_unit(
     site: Site<'_, '_, '_>,
     takes_part: bool,
 ) -> Result<(), Memory>
-    ensures added { OnOk result (edges.new.items ≡ edges.old.items ++ list_if takes_part (row_edges site.entry.steps (λ x. found_at (map row_of units.entry.parts.now) (value_of x units.entry.numbers.now)) site.entry.width (row_of site.entry.part.now))) }
+    ensures added { OnOk result (edges.new.items ≡ edges.old.items ++ list_if takes_part (other_edges site.entry.steps (λ x. found_at (map row_of units.entry.parts.now) (value_of x units.entry.numbers.now)) site.entry.width (row_of site.entry.part.now))) }
 {
     if takes_part {
         add_along(alloc, edges, site)?;
@@ -86,13 +87,13 @@ fn add_unit(
     Ok(())
 }
 
-/// The edges of the units that take part, by some steps.
+/// The edges of the units that take part, by some steps, but for those that arcs carry.
 pub(crate) fn edges(
     alloc: Global,
     flow: &Flow<'_>,
     steps: Steps<'_>,
 ) -> Result<Vec<(usize, usize)>, Memory>
-    ensures edges { IfOk result (λ v. v.items ≡ all_edges steps.entry (map row_of flow.now.parts.items) flow.now.numbers flow.now.taking flow.now.width) }
+    ensures edges { IfOk result (λ v. v.items ≡ all_others steps.entry (map row_of flow.now.parts.items) flow.now.numbers flow.now.taking flow.now.width) }
 {
     let mut edges = Vec::new(alloc);
     let parts = flow.parts.as_slice();

@@ -1,6 +1,6 @@
 //! Where flow begins and ends, and which variables have a shadow or a tangent outright.
 
-ghost use Rattle.std.specs.Prelude.{◌≡◌, ◌++◌, ◌&&◌, ◌||◌, IfOk, OnOk, map};
+ghost use Rattle.std.specs.Prelude.{◌≡◌, ◌+◌, ◌*◌, ◌<◌, ◌++◌, ◌&&◌, ◌||◌, ℕ, IfOk, OnOk, map, length};
 ghost use Rattle.adj_tree.specs.Code.{plain};
 ghost use Rattle.def_flow.specs.Rules.{somewhere};
 ghost use Rattle.def_names.specs.VariableLists.{list_if};
@@ -8,12 +8,13 @@ ghost use Rattle.adj_flow.specs.Rows.{row_of};
 ghost use Rattle.adj_flow.specs.WayView.{way_of};
 ghost use Rattle.adj_reach.specs.Edges.{flag};
 ghost use Rattle.adj_flow.specs.NodeView.{told_at};
-ghost use Rattle.adj_activity.specs.Starts.{point_nodes, is_useful_in, active_nodes, all_active};
+ghost use Rattle.adj_activity.specs.Starts.{point_nodes, is_useful_in, active_nodes, all_active, AreSeen, AreUseful};
 
 use crate::found::Sets;
-use adj_flow::{End, Flow, Part, Way, add_node, number, told};
+use adj_flow::{End, Flow, Part, Way, add_node, number};
 use adj_reach::flag_at;
 use adj_tree::{Memory, Name};
+use std::alloc::Global;
 
 /// Adds the numbers at a point of those dummies of a unit that are flagged.
 pub(crate) fn add_flagged(
@@ -33,69 +34,78 @@ pub(crate) fn add_flagged(
     Ok(())
 }
 
-// Whether a variable of a unit is flagged at an end of a way.
-fn is_on(
-    flags: &[bool],
-    width: usize,
-    part: &Part<'_>,
-    way: Way<'_>,
-    name: &Name,
-) -> Result<bool, Memory>
-    ensures on { IfOk result (λ b. b ≡ (told_at flags.now width (row_of part.now) (way_of way.entry).from (plain name.now) || told_at flags.now width (row_of part.now) (way_of way.entry).to (plain name.now))) }
+// Joins the flags at a point to those of some variables of a unit.
+fn join(seen: &mut [bool], flags: &[bool], width: usize, point: usize) -> Result<(), Memory>
+    ensures count { length seen.new ≡ length seen.old }
+    ensures joined { OnOk result ((j : ℕ) → j < length seen.old → flag seen.new j ≡ (flag seen.old j || flag flags.now (point * width + j))) }
 {
-    let from = End {
-        part,
-        point: number(way.from)?,
-        name,
-    };
-    let to = End {
-        part,
-        point: number(way.to)?,
-        name,
-    };
-    let before = told(flags, width, from)?;
-    let after = told(flags, width, to)?;
-    Ok(before || after)
-}
-
-// Whether a variable of a unit is flagged at one of its points.
-fn somewhere(flags: &[bool], width: usize, part: &Part<'_>, name: &Name) -> Result<bool, Memory>
-    ensures somewhere { IfOk result (λ b. b ≡ somewhere (map way_of part.now.ways.items) (λ p. told_at flags.now width (row_of part.now) p (plain name.now))) }
-{
-    for way in part.ways.as_slice() {
-        if is_on(flags, width, part, *way, name)? {
-            return Ok(true);
-        }
+    let first = point.checked_mul(width).ok_or(Memory)?;
+    for place in 0..seen.len() {
+        let node = first.checked_add(place).ok_or(Memory)?;
+        seen[place] = seen[place] || flag_at(flags, node);
     }
-    Ok(false)
+    Ok(())
 }
 
-// Whether a variable of a unit is useful at one of its points, by these flags; without flags it is.
-fn is_useful(
-    useful: Option<&[bool]>,
+// Joins those at the ends of a way.
+fn join_ends(seen: &mut [bool], flags: &[bool], width: usize, way: Way<'_>) -> Result<(), Memory>
+    ensures count { length seen.new ≡ length seen.old }
+    ensures joined { OnOk result ((j : ℕ) → j < length seen.old → flag seen.new j ≡ ((flag seen.old j || flag flags.now ((way_of way.entry).from * width + j)) || flag flags.now ((way_of way.entry).to * width + j))) }
+{
+    join(seen, flags, width, number(way.from)?)?;
+    join(seen, flags, width, number(way.to)?)
+}
+
+// Which variables of a unit are flagged at one of its points, by place.
+fn seen(alloc: Global, flags: &[bool], width: usize, part: &Part<'_>) -> Result<Vec<bool>, Memory>
+    ensures seen { IfOk result (λ v. AreSeen v.items flags.now width (row_of part.now)) }
+{
+    let mut seen = vec![in alloc; false; part.variables.as_slice().len()]?;
+    for way in part.ways.as_slice() {
+        join_ends(seen.as_mut_slice(), flags, width, *way)?;
+    }
+    Ok(seen)
+}
+
+// Which variables of a unit are useful at one of its points, by these flags; without flags all are.
+fn useful(
+    alloc: Global,
+    flags: Option<&[bool]>,
     width: usize,
     part: &Part<'_>,
-    name: &Name,
-) -> Result<bool, Memory>
-    ensures useful { IfOk result (λ b. b ≡ is_useful_in useful.entry width (row_of part.now) (plain name.now)) }
+) -> Result<Vec<bool>, Memory>
+    ensures useful { IfOk result (λ v. AreUseful v.items flags.entry width (row_of part.now)) }
 {
-    match useful {
-        Some(flags) => somewhere(flags, width, part, name),
-        None => Ok(true),
+    match flags {
+        Some(flags) => seen(alloc, flags, width, part),
+        None => Ok(vec![in alloc; true; part.variables.as_slice().len()]?),
     }
 }
 
 // Whether a variable of a unit is varied at a point of it and useful at one.
-fn is_active(width: usize, part: &Part<'_>, sets: Sets<'_>, name: &Name) -> Result<bool, Memory>
-    ensures active { IfOk result (λ b. b ≡ (somewhere (map way_of part.now.ways.items) (λ p. told_at sets.entry.varied.now width (row_of part.now) p (plain name.now)) && is_useful_in sets.entry.useful width (row_of part.now) (plain name.now))) }
+fn is_active(
+    width: usize,
+    part: &Part<'_>,
+    sets: Sets<'_>,
+    varied: &[bool],
+    useful: &[bool],
+    name: &Name,
+) -> bool
+    requires varied { AreSeen varied.now sets.varied.now width (row_of part.now) }
+    requires useful { AreUseful useful.now sets.useful width (row_of part.now) }
+    ensures active { result ≡ (somewhere (map way_of part.now.ways.items) (λ p. told_at sets.entry.varied.now width (row_of part.now) p (plain name.now)) && is_useful_in sets.entry.useful width (row_of part.now) (plain name.now)) }
 {
-    let is_varied = somewhere(sets.varied, width, part, name)?;
-    let is_useful = is_useful(sets.useful, width, part, name)?;
-    Ok(is_varied && is_useful)
+    let _width = width;
+    let _sets = sets;
+    match part.place(name) {
+        Some(place) => flag_at(varied, place) && flag_at(useful, place),
+        None => false,
+    }
 }
 
 // Adds the numbers of the variables of a unit that are varied at a point of it and useful at one.
 fn add_active(
+    alloc: Global,
     nodes: &mut Vec<usize>,
     width: usize,
     part: &Part<'_>,
@@ -103,8 +113,17 @@ fn add_active(
 ) -> Result<(), Memory>
     ensures added { OnOk result (nodes.new.items ≡ nodes.old.items ++ active_nodes sets.entry.varied.now sets.entry.useful width (row_of part.now)) }
 {
+    let varied = seen(alloc, sets.varied, width, part)?;
+    let useful = useful(alloc, sets.useful, width, part)?;
     for name in part.variables.as_slice() {
-        let is_active = is_active(width, part, sets, name)?;
+        let is_active = is_active(
+            width,
+            part,
+            sets,
+            varied.as_slice(),
+            useful.as_slice(),
+            name,
+        );
         let end = End {
             part,
             point: part.number,
@@ -117,6 +136,7 @@ fn add_active(
 
 // The same, if the unit takes part.
 fn add_taking(
+    alloc: Global,
     nodes: &mut Vec<usize>,
     width: usize,
     part: &Part<'_>,
@@ -126,13 +146,14 @@ fn add_taking(
     ensures added { OnOk result (nodes.new.items ≡ nodes.old.items ++ list_if takes_part (active_nodes sets.entry.varied.now sets.entry.useful width (row_of part.now))) }
 {
     if takes_part {
-        add_active(nodes, width, part, sets)?;
+        add_active(alloc, nodes, width, part, sets)?;
     }
     Ok(())
 }
 
 /// Adds these numbers of all units that take part.
 pub(crate) fn add_all_active(
+    alloc: Global,
     nodes: &mut Vec<usize>,
     flow: &Flow<'_>,
     sets: Sets<'_>,
@@ -142,7 +163,7 @@ pub(crate) fn add_all_active(
     let taking = flow.taking.as_slice();
     for part in flow.parts.as_slice() {
         let takes_part = flag_at(taking, part.number);
-        add_taking(nodes, flow.width, part, sets, takes_part)?;
+        add_taking(alloc, nodes, flow.width, part, sets, takes_part)?;
     }
     Ok(())
 }

@@ -1,4 +1,4 @@
-//! The edges of ways.
+//! The edges of ways on which a unit is called.
 
 ghost use Rattle.std.specs.Prelude.{◌≡◌, ◌++◌, ◌&&◌, ◌||◌, ℕ, List, not, is_some, IfOk, OnOk, map, flat_map};
 ghost use Rattle.adj_tree.specs.Code.{plain};
@@ -8,6 +8,7 @@ ghost use Rattle.def_flow.specs.Ways.{is_name, is_actual, assigned_on, passed_on
 ghost use Rattle.adj_flow.specs.Rows.{row_of};
 ghost use Rattle.adj_flow.specs.WayView.{deed_of, way_of};
 ghost use Rattle.adj_activity.specs.Edges.{way_edges};
+ghost use Rattle.adj_activity.specs.Arcs.{call_way};
 ghost use Rattle.adj_flow.specs.NodeView.{vars_of};
 
 use adj_flow::{Deed, Part, Way, add_carried, number};
@@ -83,17 +84,33 @@ fn add_way(
     Ok(())
 }
 
-/// Adds the edges of the ways of a unit.
-pub(crate) fn add_ways(
+// Adds the edges of a way, if a unit is called on it.
+fn add_call_way(
+    alloc: Global,
+    edges: &mut Vec<(usize, usize)>,
+    width: usize,
+    part: &Part<'_>,
+    way: Way<'_>,
+) -> Result<(), Memory>
+    ensures added { OnOk result (edges.new.items ≡ edges.old.items ++ call_way width (row_of part.now) (way_of way.entry)) }
+{
+    match way.deed {
+        Deed::Calling(_) => add_way(alloc, edges, width, part, way),
+        Deed::Passing | Deed::Assigning(_, _) => Ok(()),
+    }
+}
+
+/// Adds the edges of the ways of a unit on which a unit is called.
+pub(crate) fn add_call_ways(
     alloc: Global,
     edges: &mut Vec<(usize, usize)>,
     width: usize,
     part: &Part<'_>,
 ) -> Result<(), Memory>
-    ensures added { OnOk result (edges.new.items ≡ edges.old.items ++ flat_map (way_edges width (vars_of (row_of part.now))) (map way_of part.now.ways.items)) }
+    ensures added { OnOk result (edges.new.items ≡ edges.old.items ++ flat_map (call_way width (row_of part.now)) (map way_of part.now.ways.items)) }
 {
     for way in part.ways.as_slice() {
-        add_way(alloc, edges, width, part, *way)?;
+        add_call_way(alloc, edges, width, part, *way)?;
     }
     Ok(())
 }

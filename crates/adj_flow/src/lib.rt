@@ -1,8 +1,9 @@
 //! What the analyses work on: the statements of a program where they stand, the variables in them, the ways between its points, the units that take part,
-//! and its variables at points as nodes with numbers.
+//! its variables at points as nodes with numbers, and as rows of bits.
 //!
-//! It stands on the trees, the definitions of `def_flow` and on `adj_reach`. The layers above use that `taking_part` gives
-//! exactly the units that calls reach from the head, that the calls to be split are flagged, and that a flag of a node tells of the variable at the point.
+//! It stands on the trees, the definitions of `def_flow`, on `adj_reach` and on `adj_reach_rows`. The layers above use that `taking_part` gives
+//! exactly the units that calls reach from the head, that the calls to be split are flagged, that a flag of a node tells of the variable at the point,
+//! and that an arc of a unit's row leads just between the nodes that the edges of its variables join.
 #![tactic(auto)]
 
 pub mod actuals;
@@ -15,6 +16,7 @@ mod rows;
 pub mod sides;
 mod splits;
 mod standing;
+mod unit_rows;
 mod units;
 pub mod variables;
 mod way;
@@ -28,5 +30,6 @@ pub use row::Part;
 pub use rows::parts;
 pub use sides::{Sides, dummies_of};
 pub use standing::{Place, Standing};
+pub use unit_rows::{assigned_place, variable_rows};
 pub use units::Flow;
 pub use way::{Deed, Point, Way};

@@ -94,10 +94,10 @@ impl<'a> Flow<'a> {
         ensures width { IfOk result (λ f. All (λ v. length v.now ≤ f.width) variables.now) }
         ensures split { IfOk result (λ f. (n : ℕ) → flag f.split n ≡ split_calls (is_line splits.now) (map procedure_of units.now) n) }
     {
-        let taking = taking_part(alloc, units, head)?;
+        let numbers = unit_numbers(alloc, units)?;
+        let taking = taking_part(alloc, units, &numbers, head)?;
         let count = count(alloc, units)?;
         let parts = parts(alloc, units, variables, count)?;
-        let numbers = unit_numbers(alloc, units)?;
         let split = split_flags(alloc, units, splits)?;
         Ok(Flow {
             parts,

@@ -8,3 +8,4 @@ pub mod Imaged
 pub mod Rowed
 pub mod Telling
 pub mod Answering
+pub mod Arcs

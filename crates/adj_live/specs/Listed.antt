@@ -17,6 +17,8 @@ use Rattle.adj_reach.specs.Edges.{Edges, flag}
 use Rattle.adj_flow.specs.Nodes.{linked}
 use Rattle.adj_flow.specs.NodeView.{vars_of}
 use Rattle.adj_flow.specs.Rows.{Row}
+use Rattle.adj_flow.specs.UnitRows.{assigned_at}
+use Rattle.adj_reach_rows.specs.declared.arc.Arc.{Arc}
 use Rattle.adj_live.specs.Numbers.{needed_at, kept_at, wanted_at}
 use Rattle.adj_live.specs.Passed.{used_by, handed_by, passed_by}
 
@@ -135,3 +137,21 @@ unit_edges h = entry_edges h ++ (flat_map (way_edges h) h.row.ways ++ flat_map (
 -- those of all units that take part
 abbrev pub all_edges : (Row → Here) → List Row → List Bool → Edges
 all_edges here rs taking = flat_map (λ r. list_if (flag taking r.part.number) (unit_edges (here r))) rs
+
+-- ---- the same steps, those along ways as arcs, which carry the variables of a unit
+
+abbrev pub way_arc : Here → Way → List Arc
+way_arc h w = record { from = w.to; to = w.from; kept = h.row.part.number; left = assigned_at h.row w.deed } ∷ []
+
+abbrev pub row_arcs : Here → List Arc
+row_arcs h = flat_map (way_arc h) h.row.ways
+
+abbrev pub other_edges : Here → Edges
+other_edges h = entry_edges h ++ flat_map (statement_edges h) h.row.statements
+
+-- those of all units that take part
+abbrev pub all_arcs : (Row → Here) → List Row → List Bool → List Arc
+all_arcs here rs taking = flat_map (λ r. list_if (flag taking r.part.number) (row_arcs (here r))) rs
+
+abbrev pub all_others : (Row → Here) → List Row → List Bool → Edges
+all_others here rs taking = flat_map (λ r. list_if (flag taking r.part.number) (other_edges (here r))) rs

@@ -6,6 +6,7 @@ ghost use Rattle.def_meaning.specs.Read.{read_rule};
 ghost use Rattle.def_meaning.specs.Written.{write_rule};
 ghost use Rattle.adj_flow.specs.Rows.{row_of};
 ghost use Rattle.adj_flow.specs.Asked.{IsFlow, units_of, problem_of};
+ghost use Rattle.adj_flow.specs.UnitRows.{AreNumbered};
 ghost use Rattle.adj_reach.specs.Edges.{ReachedFrom, flag};
 ghost use Rattle.adj_flow.specs.Marked.{activity_of};
 ghost use Rattle.adj_live.specs.Listed.{all_nodes, all_edges};
@@ -15,20 +16,32 @@ ghost use Rattle.adj_live.specs.Asked.{TellsLive};
 use crate::begins::nodes;
 use crate::picked::picked;
 use crate::site::{Known, stride};
-use crate::steps::edges;
+use crate::steps::{arcs, edges};
 use adj_flow::sides::Sides;
-use adj_flow::{Flow, Units};
-use adj_reach::reached;
+use adj_flow::{Flow, Units, variable_rows};
+use adj_reach_rows::reached_by_rows;
 use adj_tree::{Activity, Flags, Head, Kept, Memory};
 use std::alloc::Global;
 
 // The facts that hold, by number.
 fn facts(alloc: Global, flow: &Flow<'_>, known: Known<'_, '_>) -> Result<Flags, Memory>
+    requires flow { AreNumbered flow.now flow.now.width }
+    requires width { known.width ≡ flow.now.width }
     ensures facts { IfOk result (λ f. (m : ℕ) → IsTrue (flag f m) ↔ ReachedFrom (all_edges (here_in known.entry) (map row_of flow.now.parts.items) flow.now.taking) (all_nodes (here_in known.entry) (map row_of flow.now.parts.items) flow.now.taking) m) }
 {
+    let width = stride(flow.width)?;
+    let rows = variable_rows(alloc, flow, width)?;
+    let arcs = arcs(alloc, flow, known)?;
     let edges = edges(alloc, flow, known)?;
     let nodes = nodes(alloc, flow, known)?;
-    reached(alloc, edges.as_slice(), nodes.as_slice())
+    reached_by_rows(
+        alloc,
+        width,
+        &rows,
+        arcs.as_slice(),
+        edges.as_slice(),
+        nodes.as_slice(),
+    )
 }
 
 /// The statements that the forward sweep keeps, and the dummies whose values each adjoint unit needs when it begins, in the program of

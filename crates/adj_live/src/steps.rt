@@ -1,6 +1,6 @@
-//! The steps of the rules, as edges between facts.
+//! The steps of the rules, as edges between facts, and as arcs that carry the facts about all variables of a unit.
 
-ghost use Rattle.std.specs.Prelude.{◌≡◌, ◌++◌, not, Some, IfOk, OnOk, map, flat_map};
+ghost use Rattle.std.specs.Prelude.{◌≡◌, ◌++◌, Some, IfOk, OnOk, map, flat_map};
 ghost use Rattle.adj_tree.specs.Code.{plain};
 ghost use Rattle.adj_tree.specs.View.{act_of};
 ghost use Rattle.def_flow.specs.Rules.{holders};
@@ -13,14 +13,15 @@ ghost use Rattle.adj_flow.specs.Nodes.{linked};
 ghost use Rattle.adj_flow.specs.View.{place_of, standing_of};
 ghost use Rattle.adj_flow.specs.WayView.{number_of, way_of};
 ghost use Rattle.adj_live.specs.Numbers.{kept_at, wanted_at};
-ghost use Rattle.adj_live.specs.Listed.{needed_here, entry_edges, way_edges, used_edges, assigned_edges, held_edges, handed_edges, statement_edges, unit_edges, all_edges};
+ghost use Rattle.adj_live.specs.Listed.{needed_here, entry_edges, used_edges, assigned_edges, held_edges, handed_edges, statement_edges, way_arc, row_arcs, all_arcs, other_edges, all_others};
 ghost use Rattle.adj_live.specs.View.{here_at, here_in};
 
 use crate::calls::add_call;
 use crate::passing::{add_handed_by, add_used_by};
-use crate::site::{Known, Site, kept, stride, wanted};
-use adj_flow::{Flow, Place, Point, Standing, Way, add_carried, add_link, number};
+use crate::site::{Known, Site, kept, wanted};
+use adj_flow::{Flow, Place, Point, Standing, Way, add_link, assigned_place, number};
 use adj_reach::flag_at;
+use adj_reach_rows::Arc;
 use adj_tree::{Act, Memory, Name};
 use std::alloc::Global;
 
@@ -195,27 +196,55 @@ fn add_statements(
     Ok(())
 }
 
-// Adds the edges of a way, which go against it.
-fn add_way(edges: &mut Vec<(usize, usize)>, site: Site<'_, '_>, way: Way<'_>) -> Result<(), Memory>
-    ensures added { OnOk result (edges.new.items ≡ edges.old.items ++ way_edges (here_at site.entry) (way_of way.entry)) }
+// Adds the arc of a way, which goes against it.
+fn add_way(arcs: &mut Vec<Arc>, site: Site<'_, '_>, way: Way<'_>) -> Result<(), Memory>
+    ensures added { OnOk result (arcs.new.items ≡ arcs.old.items ++ way_arc (here_at site.entry) (way_of way.entry)) }
 {
-    let width = stride(site.known.width)?;
-    let points = (number(way.to)?, number(way.from)?);
-    for name in site.part.variables.as_slice() {
-        let is_carried = !way.deed.assigns(name);
-        add_carried(edges, width, site.part, points, name, is_carried)?;
+    let from = number(way.to)?;
+    let to = number(way.from)?;
+    let left = assigned_place(site.part, way.deed);
+    let arc = Arc {
+        from,
+        to,
+        kept: site.part.number,
+        left,
+    };
+    arcs.push(arc)?;
+    Ok(())
+}
+
+// Adds the arcs of the ways of a unit.
+fn add_ways(arcs: &mut Vec<Arc>, site: Site<'_, '_>) -> Result<(), Memory>
+    ensures added { OnOk result (arcs.new.items ≡ arcs.old.items ++ row_arcs (here_at site.entry)) }
+{
+    for way in site.part.ways.as_slice() {
+        add_way(arcs, site, *way)?;
     }
     Ok(())
 }
 
-// Adds the edges of the ways of a unit.
-fn add_ways(edges: &mut Vec<(usize, usize)>, site: Site<'_, '_>) -> Result<(), Memory>
-    ensures added { OnOk result (edges.new.items ≡ edges.old.items ++ flat_map (way_edges (here_at site.entry)) (map way_of site.entry.part.now.ways.items)) }
+// The same, if the unit takes part.
+fn add_taking(arcs: &mut Vec<Arc>, site: Site<'_, '_>, takes_part: bool) -> Result<(), Memory>
+    ensures added { OnOk result (arcs.new.items ≡ arcs.old.items ++ list_if takes_part (row_arcs (here_at site.entry))) }
 {
-    for way in site.part.ways.as_slice() {
-        add_way(edges, site, *way)?;
+    if takes_part {
+        add_ways(arcs, site)?;
     }
     Ok(())
+}
+
+/// The arcs of the ways of the units that take part.
+pub(crate) fn arcs(alloc: Global, flow: &Flow<'_>, known: Known<'_, '_>) -> Result<Vec<Arc>, Memory>
+    ensures arcs { IfOk result (λ v. v.items ≡ all_arcs (here_in known.entry) (map row_of flow.now.parts.items) flow.now.taking) }
+{
+    let mut arcs = Vec::new(alloc);
+    let taking = flow.taking.as_slice();
+    for part in flow.parts.as_slice() {
+        let site = Site { known, part };
+        let takes_part = flag_at(taking, part.number);
+        add_taking(&mut arcs, site, takes_part)?;
+    }
+    Ok(arcs)
 }
 
 // Adds the edge from a dummy that is needed at the entry of its unit to that it is wanted.
@@ -241,30 +270,29 @@ fn add_entry(edges: &mut Vec<(usize, usize)>, site: Site<'_, '_>) -> Result<(), 
     Ok(())
 }
 
-// Adds the edges of a unit, if it takes part.
+// Adds the edges of a unit but for those of ways, if it takes part.
 fn add_unit(
     alloc: Global,
     edges: &mut Vec<(usize, usize)>,
     site: Site<'_, '_>,
     takes_part: bool,
 ) -> Result<(), Memory>
-    ensures added { OnOk result (edges.new.items ≡ edges.old.items ++ list_if takes_part (unit_edges (here_at site.entry))) }
+    ensures added { OnOk result (edges.new.items ≡ edges.old.items ++ list_if takes_part (other_edges (here_at site.entry))) }
 {
     if takes_part {
         add_entry(edges, site)?;
-        add_ways(edges, site)?;
         add_statements(alloc, edges, site)?;
     }
     Ok(())
 }
 
-/// The edges of the units that take part.
+/// The edges of the units that take part, but for those of ways.
 pub(crate) fn edges(
     alloc: Global,
     flow: &Flow<'_>,
     known: Known<'_, '_>,
 ) -> Result<Vec<(usize, usize)>, Memory>
-    ensures edges { IfOk result (λ v. v.items ≡ all_edges (here_in known.entry) (map row_of flow.now.parts.items) flow.now.taking) }
+    ensures edges { IfOk result (λ v. v.items ≡ all_others (here_in known.entry) (map row_of flow.now.parts.items) flow.now.taking) }
 {
     let mut edges = Vec::new(alloc);
     let taking = flow.taking.as_slice();

@@ -1,5 +1,5 @@
 -- Flags of what the listed edges reach from the adjoint reads, and of what is saved by them, tell what is held and what is saved.
-use Rattle.std.proofs.Common.{◌≡◌, ℕ, ◌≤◌, List, [], Bool, map, length, ◌∙◌, subst, false}
+use Rattle.std.proofs.Common.{◌≡◌, ℕ, ◌≤◌, List, [], Bool, length, ◌∙◌, subst, false}
 use Rattle.std.specs.Prelude.{◌↔◌, IsTrue, All, Contains, Option}
 use Rattle.std.specs.Option.{option_map}
 use Rattle.adj_tree.specs.Code.{Var}

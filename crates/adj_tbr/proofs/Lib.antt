@@ -5,6 +5,7 @@ pub mod Passing
 pub mod Numbering
 pub mod Given
 pub mod Ways
+pub mod Arcs
 pub mod Reading
 pub mod Saving
 pub mod Behind

@@ -1,14 +1,15 @@
 -- What the code goes over, as clauses see it.
-use Rattle.std.specs.Prelude.{ℕ, ◌*◌, List, flat_map, Bool, Option, not, ◌&&◌}
+use Rattle.std.specs.Prelude.{ℕ, ◌*◌, List, [], ◌∷◌, flat_map, Bool, Option, None, if◌then◌else◌, not, ◌&&◌}
 use Rattle.def_names.specs.Numbers.{Vars}
 use Rattle.def_names.specs.Numbering.{point_before}
-use Rattle.def_flow.specs.Ways.{Way}
+use Rattle.def_flow.specs.Ways.{Deed, passing, assigning, calling, Way}
 use Rattle.def_flow.specs.Held.{replaced_on}
 use Rattle.def_names.specs.VariableLists.{list_if}
-use Rattle.adj_flow.specs.Nodes.{node_in, linked}
+use Rattle.adj_flow.specs.Nodes.{place_in, node_in, linked}
 use Rattle.adj_flow.specs.NodeView.{vars_of, told_at, found_at}
 use Rattle.adj_flow.specs.Rows.{Row}
 use Rattle.adj_reach.specs.Edges.{Edges, flag}
+use Rattle.adj_reach_rows.specs.declared.arc.Arc.{Arc}
 use Rattle.adj_symbols_writes.specs.Table.{value_of}
 use Rattle.adj_tbr.specs.declared.found.Found.{Found}
 
@@ -43,3 +44,21 @@ unit_edges f w r = flat_map (way_edges f w r) r.ways
 -- those of all units that take part
 abbrev pub held_edges : Found → List Row → List Bool → ℕ → Edges
 held_edges f rs taking w = flat_map (λ r. list_if (flag taking r.part.number) (unit_edges f w r)) rs
+
+-- ---- the same as arcs, which carry the variables of a unit
+
+-- the place of the variable that a kept statement replaces
+abbrev pub replaced_at : Found → Row → Deed → Option ℕ
+replaced_at f r passing = None
+replaced_at f r (assigning i x) = if kept_by f i then place_in 0 (vars_of r) x else None
+replaced_at f r (calling es) = None
+
+abbrev pub way_arc : Found → Row → Way → List Arc
+way_arc f r x = record { from = x.from; to = x.to; kept = r.part.number; left = replaced_at f r x.deed } ∷ []
+
+abbrev pub unit_arcs : Found → Row → List Arc
+unit_arcs f r = flat_map (way_arc f r) r.ways
+
+-- those of all units that take part
+abbrev pub held_arcs : Found → List Row → List Bool → List Arc
+held_arcs f rs taking = flat_map (λ r. list_if (flag taking r.part.number) (unit_arcs f r)) rs

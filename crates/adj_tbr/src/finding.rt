@@ -6,6 +6,7 @@ ghost use Rattle.def_meaning.specs.Read.{read_rule};
 ghost use Rattle.def_meaning.specs.Written.{write_rule};
 ghost use Rattle.adj_flow.specs.Asked.{IsFlow, problem_of, units_of};
 ghost use Rattle.adj_flow.specs.Rows.{row_of};
+ghost use Rattle.adj_flow.specs.UnitRows.{AreNumbered};
 ghost use Rattle.adj_reach.specs.Edges.{ReachedFrom, flag};
 ghost use Rattle.adj_flow.specs.Marked.{activity_of};
 ghost use Rattle.adj_tbr.specs.Asked.{TellsSaved};
@@ -15,22 +16,27 @@ ghost use Rattle.adj_tbr.specs.Saves.{save_nodes};
 ghost use Rattle.adj_tbr.specs.View.{find, held_edges};
 
 use crate::found::Found;
-use crate::held::held_edges;
+use crate::held::held_arcs;
 use crate::reads::read_nodes;
 use crate::saves::save_nodes;
 use crate::setting::Setting;
-use adj_flow::{Flow, Sides, Units};
-use adj_reach::reached;
+use adj_flow::{Flow, Sides, Units, variable_rows};
+use adj_reach_rows::{Rows, reached_by_rows};
 use adj_tree::{Activity, Flags, Head, Kept, Memory, Saved};
 use std::alloc::Global;
 
 // The variables that are held at points, or read by the adjoint of the statement behind them.
 fn held(alloc: Global, flow: &Flow<'_>, setting: Setting<'_, '_>) -> Result<Flags, Memory>
+    requires { AreNumbered flow.now flow.now.width }
     ensures held { IfOk result (λ f. (m : ℕ) → IsTrue (flag f m) ↔ ReachedFrom (held_edges setting.entry.found (map row_of flow.now.parts.items) flow.now.taking flow.now.width) (read_nodes setting.entry.found setting.entry.sides (find (map row_of setting.entry.units.parts.now) setting.entry.units.numbers.now) (map row_of flow.now.parts.items) flow.now.taking setting.entry.width) m) }
 {
-    let edges = held_edges(alloc, flow, setting.found)?;
-    let reads = read_nodes(alloc, flow, setting)?;
-    reached(alloc, edges.as_slice(), reads.as_slice())
+    let width = flow.width.max(1);
+    let rows = variable_rows(alloc, flow, width)?;
+    let arcs = held_arcs(alloc, flow, setting.found)?;
+    // The search takes the last one first, and a row is complete before it is handed on where that is the first of the text.
+    let mut reads = read_nodes(alloc, flow, setting)?;
+    reads.reverse();
+    reached_by_rows(alloc, width, &rows, arcs.as_slice(), &[], reads.as_slice())
 }
 
 // The variables that statements save, where these are held.
@@ -42,8 +48,10 @@ fn saved(
 ) -> Result<Flags, Memory>
     ensures saved { IfOk result (λ f. (m : ℕ) → IsTrue (flag f m) ↔ ReachedFrom [] (save_nodes held.now setting.entry.found setting.entry.sides (find (map row_of setting.entry.units.parts.now) setting.entry.units.numbers.now) (map row_of flow.now.parts.items) flow.now.taking setting.entry.width) m) }
 {
+    let width = flow.width.max(1);
+    let rows = Rows::new(alloc, 0, width)?;
     let nodes = save_nodes(alloc, flow, held, setting)?;
-    reached(alloc, &[], nodes.as_slice())
+    reached_by_rows(alloc, width, &rows, &[], &[], nodes.as_slice())
 }
 
 /// The values that are saved, by statement and variable: the variable at place `j` among those of its unit has the number

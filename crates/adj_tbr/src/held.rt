@@ -1,95 +1,94 @@
-//! The edges along which variables are held: those of ways, but for what kept statements replace there.
+//! The arcs along which variables are held: those of ways, but for what kept statements replace there.
 
-ghost use Rattle.std.specs.Prelude.{◌≡◌, ◌++◌, not, IfOk, OnOk, map};
-ghost use Rattle.adj_tree.specs.Code.{plain};
-ghost use Rattle.def_flow.specs.Held.{replaced_on};
+ghost use Rattle.std.specs.Prelude.{◌≡◌, ◌++◌, IfOk, OnOk, map};
 ghost use Rattle.def_names.specs.VariableLists.{list_if};
 ghost use Rattle.adj_flow.specs.Rows.{row_of};
 ghost use Rattle.adj_flow.specs.WayView.{deed_of, way_of};
-ghost use Rattle.adj_tbr.specs.View.{kept_by, way_edges, unit_edges, held_edges};
+ghost use Rattle.adj_tbr.specs.View.{replaced_at, way_arc, unit_arcs, held_arcs};
 
 use crate::found::Found;
-use adj_flow::{Deed, Flow, Part, Way, add_carried, number};
+use adj_flow::{Deed, Flow, Part, Way, assigned_place, number};
 use adj_reach::flag_at;
-use adj_tree::{Memory, Name};
+use adj_reach_rows::Arc;
+use adj_tree::Memory;
 use std::alloc::Global;
 
-// Whether a kept statement assigns the whole variable on a way.
-fn is_replaced(found: Found<'_>, deed: Deed<'_>, name: &Name) -> bool
-    ensures replaced { result ≡ replaced_on (kept_by found.entry) (deed_of deed.entry) (plain name.now) }
+// The place of the variable that a kept statement assigns whole on a way.
+fn replaced(found: Found<'_>, part: &Part<'_>, deed: Deed<'_>) -> Option<usize>
+    ensures replaced { result ≡ replaced_at found.entry (row_of part.now) (deed_of deed.entry) }
 {
     match deed {
         Deed::Assigning(statement, _) => {
-            let is_kept = found.is_kept(statement);
-            let is_assigned = deed.assigns(name);
-            is_kept && is_assigned
+            if found.is_kept(statement) {
+                assigned_place(part, deed)
+            } else {
+                None
+            }
         }
-        Deed::Passing | Deed::Calling(_) => false,
+        Deed::Passing | Deed::Calling(_) => None,
     }
 }
 
-// Adds the edges of a way.
+// Adds the arc of a way.
 fn add_way(
-    edges: &mut Vec<(usize, usize)>,
+    arcs: &mut Vec<Arc>,
     found: Found<'_>,
-    width: usize,
     part: &Part<'_>,
     way: Way<'_>,
 ) -> Result<(), Memory>
-    ensures added { OnOk result (edges.new.items ≡ edges.old.items ++ way_edges found.entry width (row_of part.now) (way_of way.entry)) }
+    ensures added { OnOk result (arcs.new.items ≡ arcs.old.items ++ way_arc found.entry (row_of part.now) (way_of way.entry)) }
 {
-    let points = (number(way.from)?, number(way.to)?);
-    for name in part.variables.as_slice() {
-        let is_replaced = is_replaced(found, way.deed, name);
-        add_carried(edges, width, part, points, name, !is_replaced)?;
-    }
+    let from = number(way.from)?;
+    let to = number(way.to)?;
+    let left = replaced(found, part, way.deed);
+    let arc = Arc {
+        from,
+        to,
+        kept: part.number,
+        left,
+    };
+    arcs.push(arc)?;
     Ok(())
 }
 
-// Adds the edges of a unit.
-fn add_unit(
-    edges: &mut Vec<(usize, usize)>,
-    found: Found<'_>,
-    width: usize,
-    part: &Part<'_>,
-) -> Result<(), Memory>
-    ensures added { OnOk result (edges.new.items ≡ edges.old.items ++ unit_edges found.entry width (row_of part.now)) }
+// Adds the arcs of a unit.
+fn add_unit(arcs: &mut Vec<Arc>, found: Found<'_>, part: &Part<'_>) -> Result<(), Memory>
+    ensures added { OnOk result (arcs.new.items ≡ arcs.old.items ++ unit_arcs found.entry (row_of part.now)) }
 {
     for way in part.ways.as_slice() {
-        add_way(edges, found, width, part, *way)?;
+        add_way(arcs, found, part, *way)?;
     }
     Ok(())
 }
 
 // The same, if the unit takes part.
 fn add_taking(
-    edges: &mut Vec<(usize, usize)>,
+    arcs: &mut Vec<Arc>,
     found: Found<'_>,
-    width: usize,
     part: &Part<'_>,
     takes_part: bool,
 ) -> Result<(), Memory>
-    ensures added { OnOk result (edges.new.items ≡ edges.old.items ++ list_if takes_part (unit_edges found.entry width (row_of part.now))) }
+    ensures added { OnOk result (arcs.new.items ≡ arcs.old.items ++ list_if takes_part (unit_arcs found.entry (row_of part.now))) }
 {
     if takes_part {
-        add_unit(edges, found, width, part)?;
+        add_unit(arcs, found, part)?;
     }
     Ok(())
 }
 
-/// The edges of all units that take part.
-pub(crate) fn held_edges(
+/// The arcs of all units that take part.
+pub(crate) fn held_arcs(
     alloc: Global,
     flow: &Flow<'_>,
     found: Found<'_>,
-) -> Result<Vec<(usize, usize)>, Memory>
-    ensures edges { IfOk result (λ v. v.items ≡ held_edges found.entry (map row_of flow.now.parts.items) flow.now.taking flow.now.width) }
+) -> Result<Vec<Arc>, Memory>
+    ensures arcs { IfOk result (λ v. v.items ≡ held_arcs found.entry (map row_of flow.now.parts.items) flow.now.taking) }
 {
-    let mut edges = Vec::new(alloc);
+    let mut arcs = Vec::new(alloc);
     let taking = flow.taking.as_slice();
     for part in flow.parts.as_slice() {
         let takes_part = flag_at(taking, part.number);
-        add_taking(&mut edges, found, flow.width, part, takes_part)?;
+        add_taking(&mut arcs, found, part, takes_part)?;
     }
-    Ok(edges)
+    Ok(arcs)
 }

@@ -7,11 +7,15 @@ use Rattle.adj_reach.specs.Edges.{ReachedFrom, ReachedBack, flag}
 use Rattle.adj_flow.specs.Asked.{units_of, variables_of, problem_of}
 use Rattle.adj_flow.specs.ActivityTold.{activity_told}
 use Rattle.adj_flow.specs.Scoped.{scope_by}
+use Rattle.adj_flow.proofs.UnitNumbers.{flow_numbered}
 use Rattle.adj_activity.specs.View.{flow_listed, shadows_listed}
 use Rattle.adj_activity.specs.Starts.{point_nodes, all_active}
 use Rattle.adj_activity.specs.declared.found.Found.{Found}
 use Rattle.adj_activity.proofs.Answering.{same_lengths, row_there, told_activity}
 use Rattle.adj_activity.proofs.finding.activity.Goals as goal
+
+pub flowing-requires : goal.flowing-requires
+flowing-requires c = flow_numbered c.args.flow.now c.args.head.now.unit c.requires.flow
 
 pub returns : goal.returns
 returns c =

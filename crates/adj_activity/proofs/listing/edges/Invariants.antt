@@ -6,11 +6,11 @@ use Rattle.adj_flow.specs.Rows.{row_of}
 use Rattle.adj_symbols_writes.specs.Table.{value_of}
 use Rattle.adj_reach.specs.Edges.{flag}
 use Rattle.adj_flow.specs.NodeView.{found_at}
-use Rattle.adj_activity.specs.View.{row_edges, all_edges}
+use Rattle.adj_activity.specs.Arcs.{other_edges, all_others}
 use Rattle.adj_activity.proofs.listing.edges.Given as goal
 
 abbrev pub invariant-loop-part : goal.invariant-loop-part
 invariant-loop-part l =
     l.edges.items
-    ++ flat_map (λ r. list_if (flag l.flow.taking r.part.number) (row_edges l.steps (λ x. found_at (map row_of l.flow.parts.items) (value_of x l.flow.numbers)) l.flow.width r)) (map row_of (drop l.part-index l.parts))
-    ≡ all_edges l.steps (map row_of l.flow.parts.items) l.flow.numbers l.flow.taking l.flow.width
+    ++ flat_map (λ r. list_if (flag l.flow.taking r.part.number) (other_edges l.steps (λ x. found_at (map row_of l.flow.parts.items) (value_of x l.flow.numbers)) l.flow.width r)) (map row_of (drop l.part-index l.parts))
+    ≡ all_others l.steps (map row_of l.flow.parts.items) l.flow.numbers l.flow.taking l.flow.width

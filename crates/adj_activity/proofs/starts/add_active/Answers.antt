@@ -17,5 +17,5 @@ loop-name-preserved c =
     let f = λ (v : Var). list_if (somewhere (map way_of c.args.part.now.ways.items) (λ p. told_at c.args.sets.varied.now c.args.width r p v) && is_useful_in c.args.sets.useful c.args.width r v) (list_of (node_in c.args.width (vars_of r) (c.args.part.now.number, v))) in
     let x = c.name-item.result in
     flat_more (λ n. plain n) f c.as_slice-name-items.result.now c.loop-name.name-index c.name-item.result c.loop-name.nodes.items c.add_node.new.nodes.items c.loop-name-test.true c.name-item.is
-    (c.in_ok-add_node.ensures.added ∙ ap (λ b. c.loop-name.nodes.items ++ list_if b (list_of (node_in c.args.width (vars_of r) (c.args.part.now.number, plain x)))) c.in_ok-is_active.ensures.active)
+    (c.in_ok-add_node.ensures.added ∙ ap (λ b. c.loop-name.nodes.items ++ list_if b (list_of (node_in c.args.width (vars_of r) (c.args.part.now.number, plain x)))) c.is_active-is_active.ensures.active)
     ∙ c.loop-name.invariant

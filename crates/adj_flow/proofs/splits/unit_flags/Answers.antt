@@ -1,4 +1,4 @@
-use Rattle.std.proofs.Common.{◌≡◌, ◌≤◌, ◌+◌, ◌++◌, ◌∷◌, length, map, drop, sym, ap, ◌∙◌, append-nil, append_assoc, subst}
+use Rattle.std.proofs.Common.{◌≤◌, ◌+◌, ◌++◌, ◌∷◌, length, map, drop, sym, ap, ◌∙◌, append-nil, append_assoc, subst}
 use Rattle.std.proofs.lemmas.List.{drop-map, drop_more, drop_all, length-map}
 use Rattle.std.proofs.lemmas.List.Concat.{flat_map-cons}
 use Rattle.adj_tree.specs.View.{code_of, procedure_of}

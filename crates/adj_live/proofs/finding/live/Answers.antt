@@ -9,9 +9,13 @@ use Rattle.adj_flow.specs.Rows.{row_of}
 use Rattle.adj_flow.specs.Asked.{units_of, variables_of, problem_of}
 use Rattle.adj_flow.specs.Scoped.{scope_by}
 use Rattle.adj_flow.specs.Told.{told}
+use Rattle.adj_flow.proofs.UnitNumbers.{flow_numbered}
 use Rattle.adj_live.specs.Listed.{all_nodes, all_edges}
 use Rattle.adj_live.proofs.Answering.{seen_by, told_live}
 use Rattle.adj_live.proofs.finding.live.Goals as goal
+
+pub facts-requires-clause-flow : goal.facts-requires-clause-flow
+facts-requires-clause-flow c = flow_numbered c.args.flow.now c.args.head.now.unit c.requires.flow
 
 pub returns : goal.returns
 returns c =

@@ -16,6 +16,7 @@ use Rattle.adj_flow.specs.Told.{told, told_of}
 use Rattle.adj_reach.specs.Edges.{ReachedFrom, flag}
 use Rattle.adj_flow.specs.Marked.{saved_of}
 use Rattle.adj_flow.specs.ActivityTold.{activity_told}
+use Rattle.adj_flow.proofs.UnitNumbers.{flow_numbered}
 use Rattle.adj_tbr.specs.View.{find, held_edges}
 use Rattle.adj_tbr.specs.Reads.{read_nodes}
 use Rattle.adj_tbr.specs.Saves.{save_nodes}
@@ -23,6 +24,9 @@ use Rattle.adj_tbr.specs.declared.found.Found.{Found}
 use Rattle.adj_tbr.proofs.Answering.{Answer, tells_held, tells_saved}
 use Rattle.adj_tbr.proofs.Behind.{held_by}
 use Rattle.adj_tbr.proofs.finding.tbr.Goals as goal
+
+pub held-requires : goal.held-requires
+held-requires c = flow_numbered c.args.flow.now c.args.head.now.unit c.requires.flow
 
 pub returns : goal.returns
 returns c =

@@ -1,24 +1,9 @@
-use Rattle.std.proofs.Common.{◌∙◌, ◌++◌}
-use Rattle.std.specs.Prelude.{not}
-use Rattle.adj_tree.specs.Code.{Var, plain}
-use Rattle.def_flow.specs.Held.{replaced_on}
-use Rattle.def_names.specs.VariableLists.{list_if}
-use Rattle.adj_flow.specs.Nodes.{node_in, linked}
-use Rattle.adj_flow.specs.NodeView.{vars_of}
-use Rattle.adj_flow.specs.Rows.{row_of}
-use Rattle.adj_flow.specs.WayView.{number_of, deed_of}
-use Rattle.adj_symbols_writes.proofs.Stepping.{flat_more}
-use Rattle.adj_tbr.specs.View.{kept_by}
+use Rattle.std.proofs.Common.{◌++◌, ◌∷◌, [], ◌∙◌}
 use Rattle.adj_tbr.proofs.held.add_way.Goals as goal
 
-pub loop-name-preserved : goal.loop-name-preserved
-loop-name-preserved c =
-    let vs = vars_of (row_of c.args.part.now) in
-    let f = λ (v : Var). list_if (not (replaced_on (kept_by c.args.found) (deed_of c.args.way.deed) v)) (linked (node_in c.args.width vs (number_of c.args.way.from, v)) (node_in c.args.width vs (number_of c.args.way.to, v))) in
-    let x = c.name-item.result in
-    let from = c.in_ok-number.ensures.number in
-    let to = c.in_ok-number-2.ensures.number in
-    let replaced = c.is_replaced-is_replaced.ensures.replaced in
-    flat_more (λ n. plain n) f c.as_slice-name-items.result.now c.loop-name.name-index c.name-item.result c.loop-name.edges.items c.add_carried.new.edges.items c.loop-name-test.true c.name-item.is
-    (c.in_ok-add_carried.ensures.added ∙ (λ i. c.loop-name.edges.items ++ list_if (not (replaced i)) (linked (node_in c.args.width vs (from i, plain x)) (node_in c.args.width vs (to i, plain x)))))
-    ∙ c.loop-name.invariant
+pub returns : goal.returns
+returns c =
+    let from = c.in_ok-from.ensures.number in
+    let to = c.in_ok-to.ensures.number in
+    let left = c.replaced-left.ensures.replaced in
+    record { added = c.in_ok-push.ensures.items ∙ (λ i. c.args.arcs.now.items ++ record { from = from i; to = to i; kept = c.args.part.now.number; left = left i } ∷ []) }
