@@ -4,6 +4,7 @@ use Rattle.std.specs.Prelude.{map, slice_get, nat_lt, ◌==◌, ◌++◌, Result
 use Rattle.std.proofs.lemmas.List.{append_assoc, get_or_append_left, get_or_push, length-append}
 use Rattle.adj_tree.specs.Code.{Var, Terms, Code, name_eq, Procedure}
 use Rattle.adj_tree.specs.View.{code_of, procedure_of}
+use Rattle.adj_tree.specs.declared.value.Trap.{Trap as CodeTrap}
 use Rattle.adj_tree.specs.declared.value.Trap.TheVariants as trap
 use Rattle.adj_tree.proofs.Names.{nat_same, nat_refl, name_same}
 use Rattle.def_meaning.specs.Trap.{Trap, shape_trap, schedule_trap, then_ok}
@@ -24,7 +25,7 @@ use Rattle.adj_interp_frame.specs.declared.actual.Actual.{Actual as CodeActual}
 use Rattle.adj_interp_frame.specs.Called.{IsActualBelow, AreActualsBelow, entered_with, shapes_with, fit_from}
 use Rattle.adj_interp_frame.specs.Instructed.{steps_in}
 use Rattle.adj_interp_frame.specs.declared.frame.Frame.{Frame}
-use Rattle.adj_interp_frame.specs.Framed.{IsFrame}
+use Rattle.adj_interp_frame.specs.Framed.{trap_of, IsFrame}
 use Rattle.adj_interp_frame.specs.Suited.{IsScalarIn, AreSuited, counts_in, HasOneCell}
 use Rattle.adj_interp_frame.specs.Linked.{IsRoutine, units_in}
 use Rattle.adj_interp_frame.proofs.Suiting.{one_cell, suited_on}
@@ -32,9 +33,9 @@ use Rattle.adj_interp.specs.declared.stop.Stop.{Stop}
 use Rattle.adj_interp.specs.declared.stop.Stop.TheVariants as stop
 use Rattle.adj_interp.specs.declared.machine.Machine.{Machine}
 use Rattle.adj_interp.specs.Tallied.{Tallied, with_entry}
-use Rattle.adj_interp.specs.Held.{Tells, Entry, setting_at, Holds, Stands, IsDone, IsTrapped, Ends}
+use Rattle.adj_interp.specs.Held.{Tells, Entry, setting_at, Holds, Stands, Runs, Uses, IsTrapped, HasMore, IsFull, Ends}
 use Rattle.adj_interp.specs.Entered.{Gets, IsMisfit, inside, closed}
-use Rattle.adj_interp.proofs.Driving.{holds_stand, ends_break, finished}
+use Rattle.adj_interp.proofs.Driving.{uses_none, uses_then, uses_in, uses_on, uses_alike, holds_stand, ends_break, done_at_once}
 
 -- ---- how deep calls go
 
@@ -101,23 +102,23 @@ misfit_at stop.TapeFull line f h = h
 misfit_at stop.Memory line f h = h
 
 module _ {C : Type 0} where
-  module _ (rs : List Routine) (depth number : ℕ) (name : List ℕ) (some : 0 < depth) (found : find_unit (units_in rs) name ≡ slice_get (units_in rs) number) (n : Setting C) (args : Terms) (line : ℕ) (s : Scene C) (k : ℕ) where
-    deeper : (d : ℕ) → 0 < d → calls_of (units_in rs) d n name args line s k ≡ call_in (calls_of (units_in rs) (d - 1)) n (handed_back (units_in rs) name) (find_unit (units_in rs) name) args line s k
+  module _ (rs : List Routine) (depth number : ℕ) (name : List ℕ) (some : 0 < depth) (found : find_unit (units_in rs) name ≡ slice_get (units_in rs) number) (n : Setting C) (args : Terms) (line : ℕ) (s : Scene C) where
+    deeper : (d : ℕ) → 0 < d → calls_of (units_in rs) d n name args line s ≡ call_in (calls_of (units_in rs) (d - 1)) n (handed_back (units_in rs) name) (find_unit (units_in rs) name) args line s
     deeper zero h = absurd (omega arith)
-    deeper (suc d) h = let one : suc d - 1 ≡ d = omega arith in ap (λ z. call_in (calls_of (units_in rs) z) n (handed_back (units_in rs) name) (find_unit (units_in rs) name) args line s k) (sym one)
+    deeper (suc d) h = let one : suc d - 1 ≡ d = omega arith in ap (λ z. call_in (calls_of (units_in rs) z) n (handed_back (units_in rs) name) (find_unit (units_in rs) name) args line s) (sym one)
 
     -- a unit that isn't there
-    pub call_past : length rs ≤ number → calls_of (units_in rs) depth n name args line s k ≡ Trapped shape_trap line (stand n s)
-    call_past l = deeper depth some ∙ ap (λ u. call_in (calls_of (units_in rs) (depth - 1)) n (handed_back (units_in rs) name) u args line s k) (found ∙ unit_past rs number l)
+    pub call_past : length rs ≤ number → calls_of (units_in rs) depth n name args line s ≡ (λ k. Trapped shape_trap line (stand n s))
+    call_past l = deeper depth some ∙ ap (λ u. call_in (calls_of (units_in rs) (depth - 1)) n (handed_back (units_in rs) name) u args line s) (found ∙ unit_past rs number l)
 
     -- a unit that is there
-    pub call_at : (r : Routine) (ws : List Bool) → number < length rs → r ≡ get_or rs number r → ws ≡ handed_back (units_in rs) r.unit.now.name → calls_of (units_in rs) depth n name args line s k ≡ call_in (calls_of (units_in rs) (depth - 1)) n ws (Some (procedure_of r.unit.now)) args line s k
+    pub call_at : (r : Routine) (ws : List Bool) → number < length rs → r ≡ get_or rs number r → ws ≡ handed_back (units_in rs) r.unit.now.name → calls_of (units_in rs) depth n name args line s ≡ call_in (calls_of (units_in rs) (depth - 1)) n ws (Some (procedure_of r.unit.now)) args line s
     call_at r ws l at w =
         let is = found ∙ unit_at rs number r l ∙ ap (λ (z : Routine). Some (procedure_of z.unit.now)) (sym at) in
         let same = found_name (units_in rs) name (procedure_of r.unit.now) is in
         deeper depth some
-        ∙ ap (λ u. call_in (calls_of (units_in rs) (depth - 1)) n (handed_back (units_in rs) name) u args line s k) is
-        ∙ ap (λ z. call_in (calls_of (units_in rs) (depth - 1)) n z (Some (procedure_of r.unit.now)) args line s k) (ap (handed_back (units_in rs)) same ∙ sym w)
+        ∙ ap (λ u. call_in (calls_of (units_in rs) (depth - 1)) n (handed_back (units_in rs) name) u args line s) is
+        ∙ ap (λ z. call_in (calls_of (units_in rs) (depth - 1)) n z (Some (procedure_of r.unit.now)) args line s) (ap (handed_back (units_in rs)) same ∙ sym w)
 
   -- ---- before the unit runs
 
@@ -155,35 +156,48 @@ module _ {C : Type 0} {numbers : Numbers C} where
   stands_too : (w : Stand) (m m' : Machine C) → m'.tape ≡ m.tape → m'.tally ≡ m.tally → Stands numbers m w → Stands numbers m' w
   stands_too w m m' p q h = record { tape = h.tape ∙ ap (λ (z : Held C). map numbers.shown z.words) (sym p); log = h.log ∙ ap (λ (z : Tallied). z.log) (sym q) }
 
-  -- so a stop is a stop of both
-  pub moved : (e e' : Entry numbers) (o : Outcome (Scene C)) (x : Stop) (m m' : Machine C) → m'.tape ≡ m.tape → m'.tally ≡ m.tally → Ends e o (Err x) m → Ends e' o (Err x) m'
-  moved e e' o stop.Memory m m' p q h = tt
-  moved e e' (Trapped d l w) (stop.Trap t line) m m' p q h = (h.0, h.1, stands_too w m m' p q h.2)
-  moved e e' (Done a k) (stop.Trap t line) m m' p q h = absurd h
-  moved e e' (More w) (stop.Trap t line) m m' p q h = absurd h
-  moved e e' (Full w) (stop.Trap t line) m m' p q h = absurd h
-  moved e e' (More w) stop.Budget m m' p q h = stands_too w m m' p q h
-  moved e e' (Done a k) stop.Budget m m' p q h = absurd h
-  moved e e' (Trapped d l w) stop.Budget m m' p q h = absurd h
-  moved e e' (Full w) stop.Budget m m' p q h = absurd h
-  moved e e' (Full w) stop.TapeFull m m' p q h = stands_too w m m' p q h
-  moved e e' (Done a k) stop.TapeFull m m' p q h = absurd h
-  moved e e' (Trapped d l w) stop.TapeFull m m' p q h = absurd h
-  moved e e' (More w) stop.TapeFull m m' p q h = absurd h
+-- so a stop is a stop of both
+module _ {C : Type 0} (numbers : Numbers C) where
+  trapped_too : (t : CodeTrap) (line : ℕ) (o : Outcome (Scene C)) (m m' : Machine C) → m'.tape ≡ m.tape → m'.tally ≡ m.tally → IsTrapped numbers m t line o → IsTrapped numbers m' t line o
+  trapped_too t line (Trapped d l w) m m' p q h = (h.0, h.1, stands_too w m m' p q h.2)
+  trapped_too t line (Done a k) m m' p q h = absurd h
+  trapped_too t line (More w) m m' p q h = absurd h
+  trapped_too t line (Full w) m m' p q h = absurd h
+
+  more_too : (o : Outcome (Scene C)) (m m' : Machine C) → m'.tape ≡ m.tape → m'.tally ≡ m.tally → HasMore numbers m o → HasMore numbers m' o
+  more_too (More w) m m' p q h = stands_too w m m' p q h
+  more_too (Done a k) m m' p q h = absurd h
+  more_too (Trapped d l w) m m' p q h = absurd h
+  more_too (Full w) m m' p q h = absurd h
+
+  full_too : (o : Outcome (Scene C)) (m m' : Machine C) → m'.tape ≡ m.tape → m'.tally ≡ m.tally → IsFull numbers m o → IsFull numbers m' o
+  full_too (Full w) m m' p q h = stands_too w m m' p q h
+  full_too (Done a k) m m' p q h = absurd h
+  full_too (Trapped d l w) m m' p q h = absurd h
+  full_too (More w) m m' p q h = absurd h
+
+module _ {C : Type 0} {numbers : Numbers C} where
+  pub moved : (e e' : Entry numbers) (o : Runs C) (before : ℕ) (x : Stop) (m m' : Machine C) → m'.left ≡ m.left → m'.tape ≡ m.tape → m'.tally ≡ m.tally → Ends e o before (Err x) m → Ends e' o before (Err x) m'
+  moved e e' o before stop.Memory m m' l p q h = tt
+  moved e e' o before (stop.Trap t line) m m' l p q h = uses_alike o before m.left m'.left (λ j. IsTrapped numbers m t line) (λ j. IsTrapped numbers m' t line) l (λ j z g. trapped_too numbers t line z m m' p q g) h
+  moved e e' o before stop.Budget m m' l p q h = more_too numbers (o before) m m' p q h
+  moved e e' o before stop.TapeFull m m' l p q h = uses_alike o before m.left m'.left (λ j. IsFull numbers m) (λ j. IsFull numbers m') l (λ j z g. full_too numbers z m m' p q g) h
 
   -- where a value's trap was found, the run traps
-  pub gets_err : {A B : Type 0} (f : A → B) (e : Entry numbers) (r : Result B Trap) (line : ℕ) (x : Stop) (m : Machine C) (s : Scene C) (go : B → Outcome (Scene C)) → Gets f line r (Err x) → Holds e m s → Ends e (with_value r line (stand (setting_at e) s) go) (Err x) m
-  gets_err f e r line (stop.Trap t l) m s go g h = subst (λ z. Ends e (with_value z line (stand (setting_at e) s) go) (Err (stop.Trap t l)) m) (sym g.0) (refl, sym g.1, holds_stand e m s h)
+  pub gets_err : {A B : Type 0} (f : A → B) (e : Entry numbers) (r : Result B Trap) (line : ℕ) (x : Stop) (m : Machine C) (s : Scene C) (go : B → Runs C) → Gets f line r (Err x) → Holds e m s → Ends e (λ k. with_value r line (stand (setting_at e) s) (λ b. go b k)) m.left (Err x) m
+  gets_err f e r line (stop.Trap t l) m s go g h =
+      subst (λ z. Ends e (λ k. with_value z line (stand (setting_at e) s) (λ b. go b k)) m.left (Err (stop.Trap t l)) m) (sym g.0)
+      (uses_none (λ k. Trapped (trap_of t) line (stand (setting_at e) s)) m.left m.left refl (λ j. IsTrapped numbers m t l) (λ j. (refl, sym g.1, holds_stand e m s h)))
   gets_err f e r line stop.Budget m s go g h = absurd g
   gets_err f e r line stop.TapeFull m s go g h = absurd g
   gets_err f e r line stop.Memory m s go g h = tt
 
-  module _ (q : Calls C) (e : Entry numbers) (s : Scene C) (r : Routine) (ws : List Bool) (args : Terms) (line k : ℕ) (m : Machine C) (h : Holds e m s) where
+  module _ (q : Calls C) (e : Entry numbers) (s : Scene C) (r : Routine) (ws : List Bool) (args : Terms) (line : ℕ) (m : Machine C) (h : Holds e m s) where
     -- an actual's trap
-    pub call_err : {A : Type 0} (f : A → List (Actual C)) (x : Stop) → Gets f line (actuals (setting_at e) args s.store) (Err x) → Ends e (call_in q (setting_at e) ws (Some (procedure_of r.unit.now)) args line s k) (Err x) m
+    pub call_err : {A : Type 0} (f : A → List (Actual C)) (x : Stop) → Gets f line (actuals (setting_at e) args s.store) (Err x) → Ends e (call_in q (setting_at e) ws (Some (procedure_of r.unit.now)) args line s) m.left (Err x) m
     call_err f x g =
         gets_err f e (actuals (setting_at e) args s.store) line x m s
-        (λ got. if dummies_fit numbers (procedure_of r.unit.now) (entered_with numbers r got) r.unit.now.dummies got
+        (λ got k. if dummies_fit numbers (procedure_of r.unit.now) (entered_with numbers r got) r.unit.now.dummies got
         then then_do (unit_run q (setting_at e) (procedure_of r.unit.now) line (record s { store = entered_with numbers r got }) k)
         (λ s1 j. Done (record s { store = copied_out r.unit.now.dummies ws got s1.store s.store; tape = s1.tape; events = s1.events }) j)
         else Trapped shape_trap line (stand (setting_at e) s)) g h
@@ -202,20 +216,22 @@ module _ {C : Type 0} {numbers : Numbers C} where
       abbrev within : Entry numbers
       within = inside e (shapes_with numbers r got) (length m.tally.begun)
 
-      abbrev body_run : Outcome (Scene C)
-      body_run = run q (setting_at within) (procedure_of r.unit.now).body first_scene k
+      abbrev body_run : Runs C
+      body_run = run q (setting_at within) (procedure_of r.unit.now).body first_scene
 
-      is_call : (b : Bool) → fit_from numbers r got 0 ≡ b → call_in q (setting_at e) ws (Some (procedure_of r.unit.now)) args line s k ≡ (if b then then_do (then_do body_run check) copy else Trapped shape_trap line (stand (setting_at e) s))
+      is_call : (b : Bool) → fit_from numbers r got 0 ≡ b → call_in q (setting_at e) ws (Some (procedure_of r.unit.now)) args line s ≡ (λ k. if b then then_do (then_do (body_run k) check) copy else Trapped shape_trap line (stand (setting_at e) s))
       is_call b f =
-          ap (λ v. with_value v line (stand (setting_at e) s) (λ z. if dummies_fit numbers (procedure_of r.unit.now) (entered_with numbers r z) r.unit.now.dummies z
+          ap (λ v k. with_value v line (stand (setting_at e) s) (λ z. if dummies_fit numbers (procedure_of r.unit.now) (entered_with numbers r z) r.unit.now.dummies z
           then then_do (unit_run q (setting_at e) (procedure_of r.unit.now) line (record s { store = entered_with numbers r z }) k)
           (λ s1 j. Done (record s { store = copied_out r.unit.now.dummies ws z s1.store s.store; tape = s1.tape; events = s1.events }) j)
           else Trapped shape_trap line (stand (setting_at e) s))) found
-          ∙ ap (λ c. if c then then_do (then_do body_run check) copy else Trapped shape_trap line (stand (setting_at e) s)) f
+          ∙ ap (λ c k. if c then then_do (then_do (body_run k) check) copy else Trapped shape_trap line (stand (setting_at e) s)) f
 
       -- a dummy that doesn't fit
-      pub call_misfit : (x : Stop) → IsMisfit x line (fit_from numbers r got 0 ≡ false) → Ends e (call_in q (setting_at e) ws (Some (procedure_of r.unit.now)) args line s k) (Err x) m
-      call_misfit (stop.Trap trap.Shape l) g = subst (λ o. IsTrapped numbers m trap.Shape l o) (sym (is_call false g.1)) (refl, sym g.0, holds_stand e m s h)
+      pub call_misfit : (x : Stop) → IsMisfit x line (fit_from numbers r got 0 ≡ false) → Ends e (call_in q (setting_at e) ws (Some (procedure_of r.unit.now)) args line s) m.left (Err x) m
+      call_misfit (stop.Trap trap.Shape l) g =
+          subst (λ o. Ends e o m.left (Err (stop.Trap trap.Shape l)) m) (sym (is_call false g.1))
+          (uses_none (λ k. Trapped shape_trap line (stand (setting_at e) s)) m.left m.left refl (λ j. IsTrapped numbers m trap.Shape l) (λ j. (refl, sym g.0, holds_stand e m s h)))
       call_misfit (stop.Trap trap.Division l) g = absurd g
       call_misfit (stop.Trap trap.Index l) g = absurd g
       call_misfit (stop.Trap trap.Step l) g = absurd g
@@ -228,28 +244,35 @@ module _ {C : Type 0} {numbers : Numbers C} where
 
       module _ (fit : fit_from numbers r got 0 ≡ true) (m1 : Machine C) where
         -- the unit stops
-        pub call_break : (x : Stop) (m2 : Machine C) → Ends within body_run (Err x) m1 → m2.tape ≡ m1.tape → m2.tally ≡ m1.tally → Ends e (call_in q (setting_at e) ws (Some (procedure_of r.unit.now)) args line s k) (Err x) m2
-        call_break x m2 g p t = subst (λ o. Ends e o (Err x) m2) (sym (is_call true fit)) (moved within e (then_do (then_do body_run check) copy) x m1 m2 p t (ends_break within (then_do body_run check) copy x m1 (ends_break within body_run check x m1 g)))
+        pub call_break : (x : Stop) (m2 : Machine C) → Ends within body_run m.left (Err x) m1 → m2.left ≡ m1.left → m2.tape ≡ m1.tape → m2.tally ≡ m1.tally → Ends e (call_in q (setting_at e) ws (Some (procedure_of r.unit.now)) args line s) m.left (Err x) m2
+        call_break x m2 g l p t =
+            subst (λ o. Ends e o m.left (Err x) m2) (sym (is_call true fit))
+            (moved within e (λ k. then_do (then_do (body_run k) check) copy) m.left x m1 m2 l p t (ends_break within (λ k. then_do (body_run k) check) m.left copy x m1 (ends_break within body_run m.left check x m1 g)))
 
         -- it ends while a reversal is open
-        pub call_open : (m2 : Machine C) → Ends within body_run (Ok tt) m1 → (length m1.tally.begun == m1.base) ≡ false → m2.tape ≡ m1.tape → m2.tally ≡ m1.tally → IsTrapped numbers m2 trap.Schedule line (call_in q (setting_at e) ws (Some (procedure_of r.unit.now)) args line s k)
-        call_open m2 g c p t =
-            let d = finished within body_run tt m1 g in
+        pub call_open : (m2 : Machine C) → Ends within body_run m.left (Ok tt) m1 → (length m1.tally.begun == m1.base) ≡ false → m2.left ≡ m1.left → m2.tape ≡ m1.tape → m2.tally ≡ m1.tally → Ends e (call_in q (setting_at e) ws (Some (procedure_of r.unit.now)) args line s) m.left (Err (stop.Trap trap.Schedule line)) m2
+        call_open m2 d c l p t =
             let o = d.holds.opened in
             let still : (d.scene.opened == 0) ≡ false = some d.scene.opened o in
-            let trapped : IsTrapped numbers m2 trap.Schedule line (then_do (if d.scene.opened == 0 then Done d.scene m1.left else Trapped schedule_trap line (stand (setting_at e) d.scene)) copy) = subst (λ b. IsTrapped numbers m2 trap.Schedule line (then_do (if b then Done d.scene m1.left else Trapped schedule_trap line (stand (setting_at e) d.scene)) copy)) (sym still) (refl, refl, stands_too (stand (setting_at e) d.scene) m1 m2 p t (holds_stand within m1 d.scene d.holds)) in
-            subst (IsTrapped numbers m2 trap.Schedule line) (sym (is_call true fit)) (subst (λ z. IsTrapped numbers m2 trap.Schedule line (then_do (then_do z check) copy)) (sym d.same) trapped)
+            let trapped : Ends e (λ j. then_do (if d.scene.opened == 0 then Done d.scene j else Trapped schedule_trap line (stand (setting_at e) d.scene)) copy) m1.left (Err (stop.Trap trap.Schedule line)) m2 =
+            subst (λ b. Ends e (λ j. then_do (if b then Done d.scene j else Trapped schedule_trap line (stand (setting_at e) d.scene)) copy) m1.left (Err (stop.Trap trap.Schedule line)) m2) (sym still)
+            (uses_none (λ k. Trapped schedule_trap line (stand (setting_at e) d.scene)) m1.left m2.left l (λ j. IsTrapped numbers m2 trap.Schedule line) (λ j. (refl, refl, stands_too (stand (setting_at e) d.scene) m1 m2 p t (holds_stand within m1 d.scene d.holds)))) in
+            subst (λ z. Ends e z m.left (Err (stop.Trap trap.Schedule line)) m2) (sym (is_call true fit))
+            (uses_then (λ k. then_do (then_do (body_run k) check) copy) (λ j. then_do (check d.scene j) copy) m.left m1.left (twice d) m2.left (λ j. IsTrapped numbers m2 trap.Schedule line) trapped)
           where
+            -- what follows the unit
+            twice : (d : Ends within body_run m.left (Ok tt) m1) → Uses (λ k. then_do (then_do (body_run k) check) copy) m.left m1.left (λ j z. z ≡ then_do (check d.scene j) copy)
+            twice d = uses_on (λ k. then_do (body_run k) check) copy (check d.scene) m.left m1.left (uses_in body_run check d.scene m.left m1.left d.uses)
+
             some : (i : ℕ) → i + m1.base ≡ length m1.tally.begun → (i == 0) ≡ false
             some zero o = let z : length m1.tally.begun ≡ m1.base = omega (arith, o) in absurd (let bad : true ≡ false = sym (nat_refl m1.base) ∙ ap (λ y. y == m1.base) (sym z) ∙ c in cc)
             some (suc i) o = grind arith
 
         -- it ends, and its dummies are handed back
-        pub call_done : (m3 : Machine C) → Ends within body_run (Ok tt) m1 → (length m1.tally.begun == m1.base) ≡ true → m3.tape ≡ m1.tape → m3.tally ≡ m1.tally → m3.left ≡ m1.left → m3.level ≡ m.level → m3.base ≡ m.base
+        pub call_done : (m3 : Machine C) → Ends within body_run m.left (Ok tt) m1 → (length m1.tally.begun == m1.base) ≡ true → m3.tape ≡ m1.tape → m3.tally ≡ m1.tally → m3.left ≡ m1.left → m3.level ≡ m.level → m3.base ≡ m.base
             → ((t : Store C) → Shows numbers m1.frame.names.now m1.frame.slots.items within.shape t → Shows numbers m3.frame.names.now m3.frame.slots.items e.shape (copied_out r.unit.now.dummies ws got t s.store))
-            → IsDone e m3 (call_in q (setting_at e) ws (Some (procedure_of r.unit.now)) args line s k)
-        call_done m3 g c p t l v b shown =
-            let d = finished within body_run tt m1 g in
+            → Ends e (call_in q (setting_at e) ws (Some (procedure_of r.unit.now)) args line s) m.left (Ok tt) m3
+        call_done m3 d c p t l v b shown =
             let o = d.holds.opened in
             let base = d.holds.base in
             let was = h.opened in
@@ -265,35 +288,47 @@ module _ {C : Type 0} {numbers : Numbers C} where
               opened = omega (arith, was, same, base, b, count);
               told = subst (λ z. Tells z d.scene.events) (sym t) d.holds.told;
             } in
-            let done : IsDone e m3 (then_do (if d.scene.opened == 0 then Done d.scene m1.left else Trapped schedule_trap line (stand (setting_at e) d.scene)) copy) = subst (λ i. IsDone e m3 (then_do (if i == 0 then Done d.scene m1.left else Trapped schedule_trap line (stand (setting_at e) d.scene)) copy)) (sym closed) (held, sym l) in
-            subst (IsDone e m3) (sym (is_call true fit)) (subst (λ z. IsDone e m3 (then_do (then_do z check) copy)) (sym d.same) done)
+            let uses = uses_on (λ k. then_do (body_run k) check) copy (check d.scene) m.left m1.left (uses_in body_run check d.scene m.left m1.left d.uses) in
+            let done : Ends e (λ j. then_do (check d.scene j) copy) m1.left (Ok tt) m3 =
+            subst (λ i. Ends e (λ j. then_do (if i == 0 then Done d.scene j else Trapped schedule_trap line (stand (setting_at e) d.scene)) copy) m1.left (Ok tt) m3) (sym closed) (done_at_once e m1 m3 (record s { store = copied_out r.unit.now.dummies ws got d.scene.store s.store; tape = d.scene.tape; events = d.scene.events }) held l) in
+            subst (λ z. Ends e z m.left (Ok tt) m3) (sym (is_call true fit))
+            (record {
+              scene = done.scene;
+              holds = done.holds;
+              uses = uses_then (λ k. then_do (then_do (body_run k) check) copy) (λ j. then_do (check d.scene j) copy) m.left m1.left uses m3.left (λ j z. z ≡ Done done.scene j) done.uses;
+            })
 
   -- ---- the end of a unit
 
   -- a unit that is done while a reversal is open traps
-  pub finish_open : (e : Entry numbers) (o : Outcome (Scene C)) (line : ℕ) (m : Machine C) → Ends e o (Ok tt) m → (length m.tally.begun ≡ m.base → ⊥) → IsTrapped numbers m trap.Schedule line (then_do o (closed (setting_at e) line))
-  finish_open e o line m g differ =
-      let d = finished e o tt m g in
+  pub finish_open : (e : Entry numbers) (o : Runs C) (before line : ℕ) (m : Machine C) → Ends e o before (Ok tt) m → (length m.tally.begun ≡ m.base → ⊥) → Ends e (λ k. then_do (o k) (closed (setting_at e) line)) before (Err (stop.Trap trap.Schedule line)) m
+  finish_open e o before line m d differ =
       let still = some d.scene.opened d.holds.opened in
-      subst (λ z. IsTrapped numbers m trap.Schedule line (then_do z (closed (setting_at e) line))) (sym d.same)
-      (subst (λ b. IsTrapped numbers m trap.Schedule line (if b then Done d.scene m.left else Trapped schedule_trap line (stand (setting_at e) d.scene))) (sym still) (refl, refl, holds_stand e m d.scene d.holds))
+      let trapped : Ends e (closed (setting_at e) line d.scene) m.left (Err (stop.Trap trap.Schedule line)) m =
+      subst (λ b. Ends e (λ j. if b then Done d.scene j else Trapped schedule_trap line (stand (setting_at e) d.scene)) m.left (Err (stop.Trap trap.Schedule line)) m) (sym still)
+      (uses_none (λ k. Trapped schedule_trap line (stand (setting_at e) d.scene)) m.left m.left refl (λ j. IsTrapped numbers m trap.Schedule line) (λ j. (refl, refl, holds_stand e m d.scene d.holds))) in
+      uses_then (λ k. then_do (o k) (closed (setting_at e) line)) (closed (setting_at e) line d.scene) before m.left (uses_in o (closed (setting_at e) line) d.scene before m.left d.uses) m.left (λ j. IsTrapped numbers m trap.Schedule line) trapped
     where
       some : (i : ℕ) → i + m.base ≡ length m.tally.begun → (i == 0) ≡ false
       some zero o = absurd (differ (omega (arith, o)))
       some (suc i) o = grind arith
 
   -- a unit that is done where none is open is done
-  pub finish_closed : (e : Entry numbers) (o : Outcome (Scene C)) (line : ℕ) (m : Machine C) → Ends e o (Ok tt) m → length m.tally.begun ≡ m.base → IsDone e m (then_do o (closed (setting_at e) line))
-  finish_closed e o line m g same =
-      let d = finished e o tt m g in
+  pub finish_closed : (e : Entry numbers) (o : Runs C) (before line : ℕ) (m : Machine C) → Ends e o before (Ok tt) m → length m.tally.begun ≡ m.base → Ends e (λ k. then_do (o k) (closed (setting_at e) line)) before (Ok tt) m
+  finish_closed e o before line m d same =
       let n = d.holds.opened in
       let none : d.scene.opened ≡ 0 = omega (arith, n, same) in
-      subst (λ z. IsDone e m (then_do z (closed (setting_at e) line))) (sym d.same)
-      (subst (λ i. IsDone e m (if i == 0 then Done d.scene m.left else Trapped schedule_trap line (stand (setting_at e) d.scene))) (sym none) (d.holds, refl))
+      let done : Ends e (closed (setting_at e) line d.scene) m.left (Ok tt) m =
+      subst (λ i. Ends e (λ j. if i == 0 then Done d.scene j else Trapped schedule_trap line (stand (setting_at e) d.scene)) m.left (Ok tt) m) (sym none) (done_at_once e m m d.scene d.holds refl) in
+      record {
+        scene = done.scene;
+        holds = done.holds;
+        uses = uses_then (λ k. then_do (o k) (closed (setting_at e) line)) (closed (setting_at e) line d.scene) before m.left (uses_in o (closed (setting_at e) line) d.scene before m.left d.uses) m.left (λ j z. z ≡ Done done.scene j) done.uses;
+      }
 
   -- the body that is prepared ends as that of the unit
-  pub unit_ends : (q : Calls C) (within : Entry numbers) (s : Scene C) (r : Routine) (names : List (List ℕ)) (k j : ℕ) (x : Result (Unit {0}) Stop) (m : Machine C) → names ≡ r.names → steps_in r.names r.body ≡ code_of r.unit.now.body → j ≡ k → Ends within (run q (setting_at within) (steps_in names r.body) s j) x m → Ends within (run q (setting_at within) (code_of r.unit.now.body) s k) x m
-  unit_ends q within s r names k j x m named body left h = subst (λ (p : Code × ℕ). Ends within (run q (setting_at within) p.0 s p.1) x m) (λ i. ((ap (λ ns. steps_in ns r.body) named ∙ body) i, left i)) h
+  pub unit_ends : (q : Calls C) (within : Entry numbers) (s : Scene C) (r : Routine) (names : List (List ℕ)) (k j : ℕ) (x : Result (Unit {0}) Stop) (m : Machine C) → names ≡ r.names → steps_in r.names r.body ≡ code_of r.unit.now.body → j ≡ k → Ends within (run q (setting_at within) (steps_in names r.body) s) j x m → Ends within (run q (setting_at within) (code_of r.unit.now.body) s) k x m
+  unit_ends q within s r names k j x m named body left h = subst (λ (p : Code × ℕ). Ends within (run q (setting_at within) p.0 s) p.1 x m) (λ i. ((ap (λ ns. steps_in ns r.body) named ∙ body) i, left i)) h
 
   -- the calls of a unit hand variables of one cell alone to scalars, with the cells that the slots of its entry have
   pub entered_suited : (units : List Procedure) (r : Routine) (t : Store C) (shape : Var → Shape) (s : Store C) (f : Frame C) → IsRoutine units r → f.names.now ≡ r.names → IsFrame r.names f.slots.items → Shows numbers r.names f.slots.items shape s → ((x : Var) → shape x ≡ shape_of (extents_of numbers (procedure_of r.unit.now) t x)) → AreSuited units (HasOneCell f.names.now (counts_in f.slots.items)) (steps_in f.names.now r.body)

@@ -1,10 +1,10 @@
--- Concludes: how a run of a unit on an input ends, with what stands on the tape and in the log.
-use Rattle.std.specs.Prelude.{◌≡◌, ℕ, ℤ, List, map, Result, Ok, Err}
+-- Concludes: how a run of a unit on an input ends, with what stands on the tape and in the log, and how many statements it uses.
+use Rattle.std.specs.Prelude.{◌≡◌, ◌<◌, ◌≤◌, ℕ, ℤ, List, map, Result, Ok, Err}
 use Rattle.adj_tree.specs.declared.value.Slot.{Slot as CodeSlot}
 use Rattle.adj_tree.specs.declared.value.Trap.{Trap as CodeTrap}
 use Rattle.def_meaning.specs.Log as meaning
 use Rattle.def_meaning.specs.Log.{log_of}
-use Rattle.def_meaning.specs.Scene.{Stand, Outcome, Done, Trapped, More, Full}
+use Rattle.def_meaning.specs.Scene.{Stand, Outcome, Done, Trapped, More, Full, IsMore}
 use Rattle.def_meaning.specs.Units.{Slot, Output}
 use Rattle.adj_tape.specs.Held.{Held}
 use Rattle.adj_interp_frame.specs.Framed.{trap_of}
@@ -59,3 +59,17 @@ Concludes o (Err (stop.Trap t line)) tape log = TrapsWith o t line tape log
 Concludes o (Err stop.Budget) tape log = HasMoreWith o tape log
 Concludes o (Err stop.TapeFull) tape log = IsFullWith o tape log
 Concludes o (Err stop.Memory) tape log = Unit {0}
+
+-- ---- the statements that were used
+
+-- a run uses so many statements: with as many it comes to its end, and with fewer there is more to do
+abbrev pub IsCount : {R : Type 0} → (ℕ → Outcome R) → ℕ → Type 0
+IsCount run used = (IsMore (run used) → ⊥) × ((j : ℕ) → j < used → IsMore (run j))
+
+-- so many statements are counted of a run that has a budget: those that it uses, or all of the budget where there is more to do
+abbrev pub Counts : {A R : Type 0} → (ℕ → Outcome R) → ℕ → Result A Stop → ℕ → Type 0
+Counts run budget (Ok a) used = (used ≤ budget) × IsCount run used
+Counts run budget (Err (stop.Trap t line)) used = (used ≤ budget) × IsCount run used
+Counts run budget (Err stop.Budget) used = used ≡ budget
+Counts run budget (Err stop.TapeFull) used = (used ≤ budget) × IsCount run used
+Counts run budget (Err stop.Memory) used = Unit {0}

@@ -1,5 +1,5 @@
 -- Held: what a machine has in hand of a run on any numbers, and how it ends.
-use Rattle.std.specs.Prelude.{◌≡◌, ℕ, ◌+◌, ℤ, pos, List, ◌++◌, map, length, reverse, Result, Ok, Err, Some}
+use Rattle.std.specs.Prelude.{◌≡◌, ◌<◌, ◌≤◌, ℕ, ◌+◌, ◌-◌, ℤ, pos, List, ◌++◌, map, length, reverse, Result, Ok, Err, Some}
 use Rattle.adj_tree.specs.declared.value.Trap.{Trap as CodeTrap}
 use Rattle.adj_tree.specs.Code.{Var, Term, Mark}
 use Rattle.def_meaning.specs.Trap.{Trap, then_ok}
@@ -11,7 +11,7 @@ use Rattle.adj_revolve.specs.declared.machine.Action.{Action}
 use Rattle.def_meaning.specs.Event.{Event}
 use Rattle.def_meaning.specs.Log.{log_from, log_of}
 use Rattle.def_meaning.specs.Value.{Setting, value}
-use Rattle.def_meaning.specs.Scene.{Scene, Stand, Outcome, Done, Trapped, More, Full, Go}
+use Rattle.def_meaning.specs.Scene.{Scene, Stand, Outcome, Done, Trapped, More, Full, Go, IsMore}
 use Rattle.adj_interp.specs.declared.stop.Stop.{Stop}
 use Rattle.adj_interp.specs.declared.stop.Stop.TheVariants as stop
 use Rattle.adj_interp.specs.declared.machine.Machine.{Machine}
@@ -54,12 +54,22 @@ pub record Stands {C : Type 0} (numbers : Numbers C) (m : Machine C) (w : Stand)
   pub tape : w.tape ≡ map numbers.shown m.tape.words
   pub log : log_of w.events ≡ m.tally.log
 
--- a machine is done as a run is
-abbrev pub IsDone : {C : Type 0} {numbers : Numbers C} → Entry numbers → Machine C → Outcome (Scene C) → Type 0
-IsDone e m (Done s k) = Holds e m s × (k ≡ m.left)
-IsDone e m (Trapped t line w) = ⊥
-IsDone e m (More w) = ⊥
-IsDone e m (Full w) = ⊥
+-- what a run comes to with any number of statements
+abbrev pub Runs : Type 0 → Type 0
+Runs C = ℕ → Outcome (Scene C)
+
+-- a run that has `before` statements uses all but `after` of them: with fewer than it uses there is more to do, and with these and
+-- any number more it comes to what is asked of that number
+pub record Uses {R : Type 0} (o : ℕ → Outcome R) (before after : ℕ) (P : ℕ → Outcome R → Type 0) : Type 0 where
+  pub within : after ≤ before
+  pub early : (j : ℕ) → j < before - after → IsMore (o j)
+  pub ends : (j : ℕ) → P j (o (before - after + j))
+
+-- a run comes to what goes on from a scene that a machine has in hand, with the statements that the machine has left
+pub record Reaches {C : Type 0} {numbers : Numbers C} (e : Entry numbers) (o : Runs C) (before : ℕ) (go : Go C) (m : Machine C) : Type 0 where
+  pub scene : Scene C
+  pub holds : Holds e m scene
+  pub uses : Uses o before m.left (λ j z. z ≡ go scene j)
 
 -- a run trapped at a line, and the machine stands so
 abbrev pub IsTrapped : {C : Type 0} → Numbers C → Machine C → CodeTrap → ℕ → Outcome (Scene C) → Type 0
@@ -82,19 +92,21 @@ IsFull numbers m (Done s k) = ⊥
 IsFull numbers m (Trapped t line w) = ⊥
 IsFull numbers m (More w) = ⊥
 
--- a machine ends with a result as a run does, unless its memory ran out
-abbrev pub Ends : {C : Type 0} {numbers : Numbers C} → Entry numbers → Outcome (Scene C) → Result (Unit {0}) Stop → Machine C → Type 0
-Ends e o (Ok done) m = IsDone e m o
-Ends {numbers = numbers} e o (Err (stop.Trap t line)) m = IsTrapped numbers m t line o
-Ends {numbers = numbers} e o (Err stop.Budget) m = HasMore numbers m o
-Ends {numbers = numbers} e o (Err stop.TapeFull) m = IsFull numbers m o
-Ends e o (Err stop.Memory) m = Unit {0}
+-- a machine that had `before` statements ends with a result as a run does, after as many statements, unless its memory ran out
+abbrev pub Ends : {C : Type 0} {numbers : Numbers C} → Entry numbers → Runs C → ℕ → Result (Unit {0}) Stop → Machine C → Type 0
+Ends e o before (Ok done) m = Reaches e o before (λ s k. Done s k) m
+Ends {numbers = numbers} e o before (Err (stop.Trap t line)) m = Uses o before m.left (λ j. IsTrapped numbers m t line)
+Ends {numbers = numbers} e o before (Err stop.Budget) m = HasMore numbers m (o before)
+Ends {numbers = numbers} e o before (Err stop.TapeFull) m = Uses o before m.left (λ j. IsFull numbers m)
+Ends e o before (Err stop.Memory) m = Unit {0}
 
--- a run comes to what goes on from a scene that a machine has in hand
-pub record Reaches {C : Type 0} {numbers : Numbers C} (e : Entry numbers) (o : Outcome (Scene C)) (go : Go C) (m : Machine C) : Type 0 where
-  pub scene : Scene C
-  pub holds : Holds e m scene
-  pub same : o ≡ go scene m.left
+-- the statements that a machine used that had so many and has `after` left: all of them where there is more to do
+abbrev pub used_at : ℕ → ℕ → Result (Unit {0}) Stop → ℕ
+used_at before after (Ok done) = before - after
+used_at before after (Err (stop.Trap t line)) = before - after
+used_at before after (Err stop.Budget) = before
+used_at before after (Err stop.TapeFull) = before - after
+used_at before after (Err stop.Memory) = before - after
 
 -- a value is found as it is defined, or its trap at the line
 abbrev pub Finds : {A : Type 0} → ℕ → Result A Trap → Result A Stop → Type 0

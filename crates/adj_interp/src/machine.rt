@@ -171,7 +171,7 @@ impl<'a, N: Number> Machine<'a, N> {
         ensures framed { IsFrame self.old.frame.names.now self.new.frame.slots.items }
         ensures counts { counts_in self.new.frame.slots.items ≡ counts_in self.old.frame.slots.items }
         ensures room { self.new.tape.room ≡ self.old.tape.room }
-        ensures ends { let q : Calls N = calls_of (units_in program.now) depth in (e : Entry N.numbers) (s : Scene N) → Holds e self.old s → Ends e (run q (setting_at e) (steps_in self.old.frame.names.now steps.now) s self.old.left) result self.new }
+        ensures ends { let q : Calls N = calls_of (units_in program.now) depth in (e : Entry N.numbers) (s : Scene N) → Holds e self.old s → Ends e (run q (setting_at e) (steps_in self.old.frame.names.now steps.now) s) self.old.left result self.new }
     {
         let mut current = steps;
         while let Steps::More(step, rest) = current {
@@ -202,7 +202,7 @@ impl<'a, N: Number> Machine<'a, N> {
         ensures framed { IsFrame self.old.frame.names.now self.new.frame.slots.items }
         ensures counts { counts_in self.new.frame.slots.items ≡ counts_in self.old.frame.slots.items }
         ensures room { self.new.tape.room ≡ self.old.tape.room }
-        ensures ends { let q : Calls N = calls_of (units_in program.now) depth in (e : Entry N.numbers) (s : Scene N) → Holds e self.old s → Ends e (act q (setting_at e) (task_in self.old.frame.names.now task.now) line s self.old.left) result self.new }
+        ensures ends { let q : Calls N = calls_of (units_in program.now) depth in (e : Entry N.numbers) (s : Scene N) → Holds e self.old s → Ends e (act q (setting_at e) (task_in self.old.frame.names.now task.now) line s) self.old.left result self.new }
     {
         match task {
             Task::Assign(cell, term) => {
@@ -252,7 +252,7 @@ impl<'a, N: Number> Machine<'a, N> {
         ensures counts { counts_in self.new.frame.slots.items ≡ counts_in self.old.frame.slots.items }
         ensures room { self.new.tape.room ≡ self.old.tape.room }
         ensures ends { (name : List ℕ) → find_unit (units_in program.now) name ≡ slice_get (units_in program.now) number → (e : Entry N.numbers) (s : Scene N) → Holds e self.old s
-            → Ends e (calls_of (units_in program.now) depth (setting_at e) name (terms_in self.old.frame.names.now terms.now) line s self.old.left) result self.new }
+            → Ends e (calls_of (units_in program.now) depth (setting_at e) name (terms_in self.old.frame.names.now terms.now) line s) self.old.left result self.new }
     {
         if depth == 0 {
             return Err(Stop::Budget);
@@ -294,7 +294,7 @@ impl<'a, N: Number> Machine<'a, N> {
         ensures framed { IsFrame self.old.frame.names.now self.new.frame.slots.items }
         ensures counts { counts_in self.new.frame.slots.items ≡ counts_in self.old.frame.slots.items }
         ensures room { self.new.tape.room ≡ self.old.tape.room }
-        ensures ends { let q : Calls N = calls_of (units_in program.now) depth in (e : Entry N.numbers) (s : Scene N) → Holds e self.old s → Ends e (turns (setting_at e) count (run q (setting_at e) (steps_in self.old.frame.names.now body.now)) (stepped (setting_at e) (var_at self.old.frame.names.now course.now.variable) course.now.by) s self.old.left) result self.new }
+        ensures ends { let q : Calls N = calls_of (units_in program.now) depth in (e : Entry N.numbers) (s : Scene N) → Holds e self.old s → Ends e (turns (setting_at e) count (run q (setting_at e) (steps_in self.old.frame.names.now body.now)) (stepped (setting_at e) (var_at self.old.frame.names.now course.now.variable) course.now.by) s) self.old.left result self.new }
     {
         let mut remaining = count;
         while remaining > 0 {
@@ -328,7 +328,7 @@ impl<'a, N: Number> Machine<'a, N> {
         ensures framed { IsFrame self.old.frame.names.now self.new.frame.slots.items }
         ensures counts { counts_in self.new.frame.slots.items ≡ counts_in self.old.frame.slots.items }
         ensures room { self.new.tape.room ≡ self.old.tape.room }
-        ensures ends { let q : Calls N = calls_of (units_in program.now) depth in (e : Entry N.numbers) (s : Scene N) → Holds e self.old s → Ends e (tests (setting_at e) most_tests (λ s1. holds (setting_at e) (test_in self.old.frame.names.now test.now) s1.store) line (run q (setting_at e) (steps_in self.old.frame.names.now body.now)) s self.old.left) result self.new }
+        ensures ends { let q : Calls N = calls_of (units_in program.now) depth in (e : Entry N.numbers) (s : Scene N) → Holds e self.old s → Ends e (tests (setting_at e) most_tests (λ s1. holds (setting_at e) (test_in self.old.frame.names.now test.now) s1.store) line (run q (setting_at e) (steps_in self.old.frame.names.now body.now)) s) self.old.left result self.new }
     {
         let mut remaining = most_tests();
         while self.holds(test, line)? {

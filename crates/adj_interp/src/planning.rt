@@ -173,7 +173,7 @@ impl<'a, N: Number> Machine<'a, N> {
         ensures frame { self.new.frame ≡ self.old.frame }
         ensures room { self.new.tape.room ≡ self.old.tape.room }
         ensures ends { (e : Entry N.numbers) (s : Scene N) → Holds e self.old s
-            → Ends e (runtime_act (setting_at e) (begin_reversal (term_in self.old.frame.names.now steps.now) (term_in self.old.frame.names.now snapshots.now)) line s self.old.left) result self.new }
+            → Ends e (runtime_act (setting_at e) (begin_reversal (term_in self.old.frame.names.now steps.now) (term_in self.old.frame.names.now snapshots.now)) line s) self.old.left result self.new }
     {
         let plan = self.plan(steps, snapshots, line)?;
         let height = self.tape.len();
@@ -188,7 +188,7 @@ impl<'a, N: Number> Machine<'a, N> {
         ensures frame { self.new.frame ≡ self.old.frame }
         ensures room { self.new.tape.room ≡ self.old.tape.room }
         ensures ends { (e : Entry N.numbers) (s : Scene N) → Holds e self.old s
-            → Ends e (runtime_act (setting_at e) end_reversal line s self.old.left) result self.new }
+            → Ends e (runtime_act (setting_at e) end_reversal line s) self.old.left result self.new }
     {
         if self.tally.open() == self.base {
             return Err(Stop::Trap(Trap::Schedule, line));
@@ -216,7 +216,7 @@ impl<'a, N: Number> Machine<'a, N> {
         ensures counts { counts_in self.new.frame.slots.items ≡ counts_in self.old.frame.slots.items }
         ensures room { self.new.tape.room ≡ self.old.tape.room }
         ensures ends { (e : Entry N.numbers) (s : Scene N) → Holds e self.old s
-            → Ends e (runtime_act (setting_at e) (count_actions (term_in self.old.frame.names.now steps.now) (term_in self.old.frame.names.now snapshots.now) (var_at self.old.frame.names.now variable)) line s self.old.left) result self.new }
+            → Ends e (runtime_act (setting_at e) (count_actions (term_in self.old.frame.names.now steps.now) (term_in self.old.frame.names.now snapshots.now) (var_at self.old.frame.names.now variable)) line s) self.old.left result self.new }
     {
         let plan = self.plan(steps, snapshots, line)?;
         let actions = count(plan.0, plan.1);
@@ -264,7 +264,7 @@ impl<'a, N: Number> Machine<'a, N> {
         ensures counts { counts_in self.new.frame.slots.items ≡ counts_in self.old.frame.slots.items }
         ensures room { self.new.tape.room ≡ self.old.tape.room }
         ensures ends { (e : Entry N.numbers) (s : Scene N) → Holds e self.old s
-            → Ends e (runtime_act (setting_at e) (give_action (term_in self.old.frame.names.now steps.now) (term_in self.old.frame.names.now snapshots.now) (term_in self.old.frame.names.now number.now) (var_at self.old.frame.names.now targets.0) (var_at self.old.frame.names.now targets.1) (var_at self.old.frame.names.now targets.2)) line s self.old.left) result self.new }
+            → Ends e (runtime_act (setting_at e) (give_action (term_in self.old.frame.names.now steps.now) (term_in self.old.frame.names.now snapshots.now) (term_in self.old.frame.names.now number.now) (var_at self.old.frame.names.now targets.0) (var_at self.old.frame.names.now targets.1) (var_at self.old.frame.names.now targets.2)) line s) self.old.left result self.new }
     {
         let action = self.asked(steps, snapshots, number, line)?;
         self.give(&action, targets.0, targets.1, targets.2);

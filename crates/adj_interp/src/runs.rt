@@ -1,6 +1,6 @@
 //! Runs of a unit of a program on an input.
 
-ghost use Rattle.std.specs.Prelude.{◌≡◌, ◌<◌, ◌-◌, Some, Err, MatchResult, length, map, slice_get, true};
+ghost use Rattle.std.specs.Prelude.{◌≡◌, ◌<◌, Some, Err, length, map, slice_get, true};
 ghost use Rattle.adj_tree.specs.Code.{Procedure};
 ghost use Rattle.adj_tree.specs.View.{procedure_of, procedures_of};
 ghost use Rattle.def_meaning.specs.Numbers.{words};
@@ -12,11 +12,11 @@ ghost use Rattle.adj_interp_frame.specs.Framed.{IsFrame};
 ghost use Rattle.adj_interp_frame.specs.Linked.{IsRoutine, units_in, AreRoutines};
 ghost use Rattle.adj_interp_frame.specs.Suited.{AreSuited};
 ghost use Rattle.adj_interp.specs.declared.stop.Stop.TheVariants as stop;
-ghost use Rattle.adj_interp.specs.Concludes.{Concludes, slot_seen};
+ghost use Rattle.adj_interp.specs.Concludes.{Concludes, Counts, slot_seen};
 ghost use Rattle.adj_interp.specs.Ended.{EndsWith};
 ghost use Rattle.adj_interp.specs.Inputs.{entry_seen};
 ghost use Rattle.adj_interp.specs.Entered.{closed};
-ghost use Rattle.adj_interp.specs.Held.{Entry, setting_at, Holds, OneCelled, Ends};
+ghost use Rattle.adj_interp.specs.Held.{Entry, setting_at, Holds, OneCelled, Ends, used_at};
 
 use crate::input::first_entry;
 use crate::log::Log;
@@ -50,7 +50,7 @@ impl<'a, N: Number> Machine<'a, N> {
         ensures framed { IsFrame self.old.frame.names.now self.new.frame.slots.items }
         ensures room { self.new.tape.room ≡ self.old.tape.room }
         ensures ends { let q : Calls N = calls_of (units_in program.now) depth in (e : Entry N.numbers) (s : Scene N) → Holds e self.old s
-            → Ends e (then_do (run q (setting_at e) (procedure_of routine.now.unit.now).body s self.old.left) (closed (setting_at e) routine.now.unit.now.line)) result self.new }
+            → Ends e (λ k. then_do (run q (setting_at e) (procedure_of routine.now.unit.now).body s k) (closed (setting_at e) routine.now.unit.now.line)) self.old.left result self.new }
     {
         self.run(program, depth, &routine.body)?;
         if self.tally.open() != self.base {
@@ -62,7 +62,7 @@ impl<'a, N: Number> Machine<'a, N> {
 
 // The statements that a run used: all of them where there is more to do.
 fn used(budget: u64, left: u64, ended: &Result<(), Stop>) -> u64
-    ensures { MatchResult ended.now (λ done. result ≡ budget - left) (λ x. x ≡ stop.Budget → result ≡ budget) }
+    ensures { result ≡ used_at budget left ended.now }
 {
     match ended {
         Err(Stop::Budget) => budget,
@@ -87,6 +87,8 @@ pub fn run_over<N: Number>(
     ensures room { tape.new.room ≡ tape.old.room }
     ensures ends { (u : Procedure) → slice_get (procedures_of program.now.program) unit ≡ Some u
         → EndsWith N.numbers (λ slots. map entry_seen slots.items) (run_unit N.numbers (procedures_of program.now.program) u (map entry_seen input.items) tape.old.words (Some tape.old.room) budget) result tape.new log.new }
+    ensures counted { (u : Procedure) → slice_get (procedures_of program.now.program) unit ≡ Some u
+        → Counts (run_unit N.numbers (procedures_of program.now.program) u (map entry_seen input.items) tape.old.words (Some tape.old.room)) budget result log.new.used }
     ensures spent { result ≡ Err stop.Budget → log.new.used ≡ budget }
 {
     let routines = prepared(alloc, program)?;
@@ -115,7 +117,7 @@ pub fn run_over<N: Number>(
 
 /// The run of a unit of a checked program on an input that fits it, from the words on a tape, with at most so many
 /// statements. The tape has then the words that the run leaves, and the log says what the run counted, unless memory ran out.
-/// The log tells the statements that were used of a run that is done, and of one that has more to do: all of them.
+/// The statements that were used are those with which the run comes to its end, and no fewer; where it has more to do, all of them.
 pub fn run(
     alloc: Global,
     program: &Checked,
@@ -131,6 +133,8 @@ pub fn run(
     ensures room { tape.new.room ≡ tape.old.room }
     ensures ends { (u : Procedure) → slice_get (procedures_of program.now.program) unit ≡ Some u
         → Concludes (run_unit words (procedures_of program.now.program) u (map slot_seen input) tape.old.words (Some tape.old.room) budget) result tape.new log.new }
+    ensures counted { (u : Procedure) → slice_get (procedures_of program.now.program) unit ≡ Some u
+        → Counts (run_unit words (procedures_of program.now.program) u (map slot_seen input) tape.old.words (Some tape.old.room)) budget result log.new.used }
     ensures spent { result ≡ Err stop.Budget → log.new.used ≡ budget }
 {
     let slots = slots_of(alloc, input)?;

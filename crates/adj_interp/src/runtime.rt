@@ -23,7 +23,7 @@ impl<'a, N: Number> Machine<'a, N> {
     fn push(&mut self, number: N) -> Result<(), Stop>
         ensures frame { self.new.frame ≡ self.old.frame }
         ensures room { self.new.tape.room ≡ self.old.tape.room }
-        ensures ends { (e : Entry N.numbers) (s : Scene N) → Holds e self.old s → Ends e (pushed (setting_at e) number s self.old.left) result self.new }
+        ensures ends { (e : Entry N.numbers) (s : Scene N) → Holds e self.old s → Ends e (pushed (setting_at e) number s) self.old.left result self.new }
     {
         match self.tape.push(number) {
             Ok(()) => Ok(()),
@@ -41,7 +41,7 @@ impl<'a, N: Number> Machine<'a, N> {
         ensures counts { counts_in self.new.frame.slots.items ≡ counts_in self.old.frame.slots.items }
         ensures sized { (j : ℕ) (d : Slot N) → length (slice_index_or self.new.frame.slots.items j d).cells.items ≡ length (slice_index_or self.old.frame.slots.items j d).cells.items }
         ensures room { self.new.tape.room ≡ self.old.tape.room }
-        ensures ends { (e : Entry N.numbers) (s : Scene N) → Holds e self.old s → Ends e (popped (setting_at e) (var_at self.old.frame.names.now variable) cell line s self.old.left) result self.new }
+        ensures ends { (e : Entry N.numbers) (s : Scene N) → Holds e self.old s → Ends e (popped (setting_at e) (var_at self.old.frame.names.now variable) cell line s) self.old.left result self.new }
     {
         match self.tape.pop() {
             Some(number) => {
@@ -61,7 +61,7 @@ impl<'a, N: Number> Machine<'a, N> {
         ensures counts { counts_in self.new.frame.slots.items ≡ counts_in self.old.frame.slots.items }
         ensures room { self.new.tape.room ≡ self.old.tape.room }
         ensures ends { (e : Entry N.numbers) (s : Scene N) → Holds e self.old s
-            → Ends e (runtime_act (setting_at e) (push_word (var_at self.old.frame.names.now cell.now.variable) (terms_in self.old.frame.names.now cell.now.subs)) line s self.old.left) result self.new }
+            → Ends e (runtime_act (setting_at e) (push_word (var_at self.old.frame.names.now cell.now.variable) (terms_in self.old.frame.names.now cell.now.subs)) line s) self.old.left result self.new }
     {
         let place = self.target(cell, line)?;
         let number = self.frame.slots[cell.variable].cells[place];
@@ -77,7 +77,7 @@ impl<'a, N: Number> Machine<'a, N> {
         ensures counts { counts_in self.new.frame.slots.items ≡ counts_in self.old.frame.slots.items }
         ensures room { self.new.tape.room ≡ self.old.tape.room }
         ensures ends { (e : Entry N.numbers) (s : Scene N) → Holds e self.old s
-            → Ends e (runtime_act (setting_at e) (pop_word (var_at self.old.frame.names.now cell.now.variable) (terms_in self.old.frame.names.now cell.now.subs)) line s self.old.left) result self.new }
+            → Ends e (runtime_act (setting_at e) (pop_word (var_at self.old.frame.names.now cell.now.variable) (terms_in self.old.frame.names.now cell.now.subs)) line s) self.old.left result self.new }
     {
         let place = self.target(cell, line)?;
         self.pop(cell.variable, place, line)
@@ -90,7 +90,7 @@ impl<'a, N: Number> Machine<'a, N> {
         ensures frame { self.new.frame ≡ self.old.frame }
         ensures room { self.new.tape.room ≡ self.old.tape.room }
         ensures ends { (line : ℕ) (e : Entry N.numbers) (s : Scene N) → Holds e self.old s
-            → Ends e (runtime_act (setting_at e) (push_array (var_at self.old.frame.names.now variable)) line s self.old.left) result self.new }
+            → Ends e (runtime_act (setting_at e) (push_array (var_at self.old.frame.names.now variable)) line s) self.old.left result self.new }
     {
         let count = self.frame.slots[variable].cells.len();
         for cell in 0..count {
@@ -109,7 +109,7 @@ impl<'a, N: Number> Machine<'a, N> {
         ensures counts { counts_in self.new.frame.slots.items ≡ counts_in self.old.frame.slots.items }
         ensures room { self.new.tape.room ≡ self.old.tape.room }
         ensures ends { (e : Entry N.numbers) (s : Scene N) → Holds e self.old s
-            → Ends e (runtime_act (setting_at e) (pop_array (var_at self.old.frame.names.now variable)) line s self.old.left) result self.new }
+            → Ends e (runtime_act (setting_at e) (pop_array (var_at self.old.frame.names.now variable)) line s) self.old.left result self.new }
     {
         let mut remaining = self.frame.slots[variable].cells.len();
         while remaining > 0 {
@@ -126,7 +126,7 @@ impl<'a, N: Number> Machine<'a, N> {
         ensures frame { self.new.frame ≡ self.old.frame }
         ensures room { self.new.tape.room ≡ self.old.tape.room }
         ensures ends { (e : Entry N.numbers) (s : Scene N) → Holds e self.old s
-            → Ends e (runtime_act (setting_at e) (push_control (term_in self.old.frame.names.now term.now)) line s self.old.left) result self.new }
+            → Ends e (runtime_act (setting_at e) (push_control (term_in self.old.frame.names.now term.now)) line s) self.old.left result self.new }
     {
         let number = self.value(term, line)?;
         self.push(number)
@@ -155,7 +155,7 @@ impl<'a, N: Number> Machine<'a, N> {
         ensures counts { counts_in self.new.frame.slots.items ≡ counts_in self.old.frame.slots.items }
         ensures room { self.new.tape.room ≡ self.old.tape.room }
         ensures ends { (e : Entry N.numbers) (s : Scene N) → Holds e self.old s
-            → Ends e (runtime_act (setting_at e) (service_in self.old.frame.names.now service.now) line s self.old.left) result self.new }
+            → Ends e (runtime_act (setting_at e) (service_in self.old.frame.names.now service.now) line s) self.old.left result self.new }
     {
         match service {
             Service::PushWord(cell) => self.push_word(cell, line),

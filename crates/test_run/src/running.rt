@@ -135,7 +135,7 @@ fn holds(alloc: Global, case: &Case) -> Result<bool, Memory> {
         ended.stop == case.stop
             && ended.words.as_slice() == case.ends
             && ended.tape.as_slice() == case.tape
-            && (case.stop.is_some() || ended.log.used == case.used),
+            && ended.log.used == case.used,
     )
 }
 
@@ -217,7 +217,7 @@ const STOPS: [Case; 7] = [
         room: 0,
         stop: Some(Stop::Trap(Trap::Division, 5)),
         ends: &[],
-        used: 0,
+        used: 2,
         tape: &[],
     },
     // an array that doesn't fit its actual, at the line of the CALL
@@ -228,7 +228,7 @@ const STOPS: [Case; 7] = [
         room: 0,
         stop: Some(Stop::Trap(Trap::Shape, 6)),
         ends: &[],
-        used: 0,
+        used: 2,
         tape: &[],
     },
     // the statements run out in a called unit
@@ -239,7 +239,7 @@ const STOPS: [Case; 7] = [
         room: 9,
         stop: Some(Stop::Budget),
         ends: &[],
-        used: 0,
+        used: 2,
         tape: &[8],
     },
     // so does the room of the tape
@@ -250,7 +250,7 @@ const STOPS: [Case; 7] = [
         room: 1,
         stop: Some(Stop::TapeFull),
         ends: &[],
-        used: 0,
+        used: 3,
         tape: &[8],
     },
     // a pop from an empty tape
@@ -261,7 +261,7 @@ const STOPS: [Case; 7] = [
         room: 0,
         stop: Some(Stop::Trap(Trap::Tape, 2)),
         ends: &[],
-        used: 0,
+        used: 1,
         tape: &[],
     },
     // a reversal that is open at the end of a called unit, at the line of the CALL
@@ -272,7 +272,7 @@ const STOPS: [Case; 7] = [
         room: 0,
         stop: Some(Stop::Trap(Trap::Schedule, 2)),
         ends: &[],
-        used: 0,
+        used: 2,
         tape: &[],
     },
     // and at that of the head, at its own line
@@ -283,7 +283,7 @@ const STOPS: [Case; 7] = [
         room: 0,
         stop: Some(Stop::Trap(Trap::Schedule, 1)),
         ends: &[],
-        used: 0,
+        used: 1,
         tape: &[],
     },
 ];
@@ -341,7 +341,7 @@ const RUNTIME: [Case; 6] = [
         room: 0,
         stop: Some(Stop::Trap(Trap::Schedule, 2)),
         ends: &[],
-        used: 0,
+        used: 1,
         tape: &[],
     },
     // the number of actions, and the first of a schedule of which no list fits into memory

@@ -1,15 +1,16 @@
 use Rattle.std.proofs.Common.{rules, ◌≡◌, ◌*◌, ◌-◌, ◌<◌, ℕ, suc, ℤ, List, FitsSigned, w64, length, refl, sym, ap, subst, ◌∙◌, arith, Vec, Global}
-use Rattle.std.specs.Prelude.{Result, Ok, Err, Some, None, Bool, true, false}
-use Rattle.def_meaning.specs.Trap.{Trap}
+use Rattle.std.specs.Prelude.{Result, Ok, Err, Some, None, Bool, true, false, if◌then◌else◌}
+use Rattle.def_meaning.specs.Trap.{Trap, shape_trap}
 use Rattle.std.proofs.lemmas.Int.{to_z-of_z}
 use Rattle.adj_word.specs.Word.{wrap}
 use Rattle.adj_word.proofs.Residues.{wrap_word}
-use Rattle.def_meaning.specs.Scene.{Scene, Outcome, then_do, with_value, Done, stand}
+use Rattle.def_meaning.specs.Scene.{Scene, then_do, with_value, Done, Trapped, stand}
 use Rattle.def_meaning.specs.Store.{set}
 use Rattle.def_meaning.specs.Value.{target, holds}
 use Rattle.def_meaning.specs.Units.{calls_of, copied_out}
 use Rattle.def_meaning.specs.Run.{run, turns, with_turn, stepped, tests, in_force, after_loop}
 use Rattle.adj_tree.specs.declared.value.Trap.TheVariants as trap
+use Rattle.adj_interp.specs.declared.stop.Stop.TheVariants as stop
 use Rattle.adj_interp.specs.declared.machine.Machine.{Machine}
 use Rattle.adj_interp_frame.specs.declared.step.Steps.{size-Steps}
 use Rattle.adj_interp_frame.specs.declared.step.Steps.TheViews.{sized-More}
@@ -30,8 +31,8 @@ use Rattle.adj_interp_frame.specs.Framed.{IsFrame, shapes_in, store_in}
 use Rattle.adj_interp_frame.specs.Suited.{AreSuited, counts_in, HasOneCell, AreAsLarge}
 use Rattle.adj_interp_frame.proofs.Showing.{shows_itself}
 use Rattle.adj_interp_frame.proofs.Suiting.{got_suited, as_large}
-use Rattle.adj_interp.specs.Held.{setting_at, Holds, Ends, Finds, IsDone, IsTrapped, HasMore}
-use Rattle.adj_interp.proofs.Driving.{holds_stand, reaches_start, reaches_end, ends_ok, ends_err, list_budget, list_next, list_break, same_act, turn_budget, turn_next, turn_break, turn_end, test_err, test_end, test_last, test_break, test_budget, test_next, ends_loop, bounds_chain}
+use Rattle.adj_interp.specs.Held.{setting_at, Holds, Runs, Ends, Finds, IsTrapped, HasMore, bounds_in}
+use Rattle.adj_interp.proofs.Driving.{uses_none, holds_stand, reaches_start, ends_same, done_at_once, ends_ok, ends_err, list_budget, list_next, list_break, same_act, turn_budget, turn_next, turn_break, turn_end, test_err, test_end, test_last, test_break, test_budget, test_next, ends_loop, bounds_chain}
 use Rattle.adj_interp.proofs.machine.Machine.+run.Goals as goal
 
 -- ---- lists
@@ -56,8 +57,9 @@ run-returns-then-not-count-clause-ends g t c e s h =
     let v = c.in-More.step.value in
     let none = c.count.ensures.none c.if-not-count.true in
     let at = rw c.in-More.is at (c.loop-current.invariant.reached e s h) in
-    subst (λ m. HasMore g.N.Number.numbers m (run q (setting_at e) (steps_in names c.args.steps.now) s c.args.self.now.left)) (sym none.0)
-    (list_budget e q v.line (task_in names v.task) (steps_in names c.in-More.rest.value) (run q (setting_at e) (steps_in names c.args.steps.now) s c.args.self.now.left) c.loop-current.self none.1 at)
+    let o = run q (setting_at e) (steps_in names c.args.steps.now) s in
+    subst (λ m. Ends e o c.args.self.now.left (Err stop.Budget) m) (sym none.0)
+    (list_budget e q v.line (task_in names v.task) (steps_in names c.in-More.rest.value) o c.loop-current.self none.1 at)
 
 pub run-returns-in_err-perform-clause-ends : goal.run-returns-in_err-perform-clause-ends
 run-returns-in_err-perform-clause-ends g t c e s h =
@@ -68,8 +70,8 @@ run-returns-in_err-perform-clause-ends g t c e s h =
     let at = rw c.in-More.is at (c.loop-current.invariant.reached e s h) in
     let same = ap (λ (m : Machine _). m.frame.names.now) (sym some) ∙ c.loop-current.invariant.names in
     let r : c.from_residual.result ≡ Err c.in_err-perform.field-0.0 = search rules in
-    let o = run q (setting_at e) (steps_in names c.args.steps.now) s c.args.self.now.left in
-    subst (λ z. Ends e o z c.perform.new.self) (sym r)
+    let o = run q (setting_at e) (steps_in names c.args.steps.now) s in
+    subst (λ z. Ends e o c.args.self.now.left z c.perform.new.self) (sym r)
     (list_break e q v.line (task_in names v.task) (steps_in names c.in-More.rest.value) o c.in_err-perform.field-0.0 c.loop-current.self c.count.new.self c.perform.new.self some
     (λ z g. same_act e q names c.count.new.self.frame.names.now c.deref.result.now c.deref-in-More.result.now v z c.count.new.self.left (Err c.in_err-perform.field-0.0) c.perform.new.self same c.deref.ensures c.deref-in-More.ensures (c.in_err-perform.ensures.ends e z g))
     at)
@@ -99,7 +101,7 @@ run-loop-current-preserved g t c =
       linked = rw rest linked.1;
       suited = rw rest suited.1;
       reached = λ e s h. let q = calls_of {C = g.row.N.Denot} (units_in c.args.program.now) c.args.depth in rw rest
-          (list_next e q v.line (task_in names v.task) (steps_in names c.in-More.rest.value) (run q (setting_at e) (steps_in names c.args.steps.now) s c.args.self.now.left) c.in_ok-perform.field-0 c.loop-current.self c.count.new.self c.perform.new.self some
+          (list_next e q v.line (task_in names v.task) (steps_in names c.in-More.rest.value) (run q (setting_at e) (steps_in names c.args.steps.now) s) c.in_ok-perform.field-0 c.loop-current.self c.count.new.self c.perform.new.self some
           (λ z g. same_act e q names c.count.new.self.frame.names.now c.deref.result.now c.deref-in-More.result.now v z c.count.new.self.left (Ok c.in_ok-perform.field-0) c.perform.new.self same c.deref.ensures c.deref-in-More.ensures (c.in_ok-perform.ensures.ends e z g))
           (rw c.in-More.is at (c.loop-current.invariant.reached e s h)));
     }
@@ -108,10 +110,9 @@ pub run-returns-clause-ends : goal.run-returns-clause-ends
 run-returns-clause-ends g t c e s h =
     let q = calls_of {C = g.row.N.Denot} (units_in c.args.program.now) c.args.depth in
     let names = c.args.self.now.frame.names.now in
-    let o = run q (setting_at e) (steps_in names c.args.steps.now) s c.args.self.now.left in
     let at = c.loop-current.invariant.reached e s h in
     let empty : c.loop-current.current.now ≡ steps.Empty = search rules in
-    reaches_end e o tt c.loop-current.self (rw empty at at)
+    rw empty at at
 
 -- ---- statements
 
@@ -127,9 +128,39 @@ perform-returns-in_err-place-in-Assign-clause-ends g t c e s h =
     let r : c.from_residual-in_err-place-in-Assign.result ≡ Err c.in_err-place-in-Assign.field-0.0 = search rules in
     let names = c.args.self.now.frame.names.now in
     let x = var_at names c.in-Assign.cell.variable in
-    let put : g.row.N.Denot → ℕ → Outcome (Scene g.row.N.Denot) = λ w i. Done (record s { store = set s.store x i w }) c.args.self.now.left in
-    let go : g.row.N.Denot → Outcome (Scene g.row.N.Denot) = λ w. with_value (target (setting_at e) x (terms_in names c.in-Assign.cell.subs) s.store) c.args.line (stand (setting_at e) s) (put w) in
-    rw (c.in-Assign.is, r) (ends_ok e _ c.args.line c.in_ok-number-in-Assign.number (stand (setting_at e) s) go (Err c.in_err-place-in-Assign.field-0.0) c.args.self.now (c.in_ok-number-in-Assign.ensures.value e s h) (ends_err e _ c.args.line c.in_err-place-in-Assign.field-0.0 c.args.self.now s (put c.in_ok-number-in-Assign.number) (c.in_err-place-in-Assign.ensures.target e s h) h))
+    let put : g.row.N.Denot → ℕ → Runs g.row.N.Denot = λ w i k. Done (record s { store = set s.store x i w }) k in
+    let go : g.row.N.Denot → Runs g.row.N.Denot = λ w k. with_value (target (setting_at e) x (terms_in names c.in-Assign.cell.subs) s.store) c.args.line (stand (setting_at e) s) (λ i. put w i k) in
+    rw (c.in-Assign.is, r) (ends_ok e _ c.args.line c.in_ok-number-in-Assign.number (stand (setting_at e) s) go c.args.self.now.left (Err c.in_err-place-in-Assign.field-0.0) c.args.self.now (c.in_ok-number-in-Assign.ensures.value e s h) (ends_err e _ c.args.line c.in_err-place-in-Assign.field-0.0 c.args.self.now s (put c.in_ok-number-in-Assign.number) (c.in_err-place-in-Assign.ensures.target e s h) h))
+
+pub perform-returns-in_ok-place-in-Assign-clause-ends : goal.perform-returns-in_ok-place-in-Assign-clause-ends
+perform-returns-in_ok-place-in-Assign-clause-ends g t c e s h =
+    let m = c.args.self.now in
+    let names = m.frame.names.now in
+    let x = var_at names c.in-Assign.cell.variable in
+    let put : g.row.N.Denot → ℕ → Runs g.row.N.Denot = λ w i k. Done (record s { store = set s.store x i w }) k in
+    let go : g.row.N.Denot → Runs g.row.N.Denot = λ w k. with_value (target (setting_at e) x (terms_in names c.in-Assign.cell.subs) s.store) c.args.line (stand (setting_at e) s) (λ i. put w i k) in
+    rw c.in-Assign.is
+    (ends_ok e _ c.args.line c.in_ok-number-in-Assign.number (stand (setting_at e) s) go m.left (Ok tt) c.put.new.self (c.in_ok-number-in-Assign.ensures.value e s h)
+    (ends_ok e _ c.args.line c.in_ok-place-in-Assign.place (stand (setting_at e) s) (put c.in_ok-number-in-Assign.number) m.left (Ok tt) c.put.new.self (c.in_ok-place-in-Assign.ensures.target e s h)
+    (done_at_once e m c.put.new.self _ (c.put.ensures.holds e s h) c.put.ensures.left)))
+
+pub perform-returns-then-branch-clause-ends : goal.perform-returns-then-branch-clause-ends
+perform-returns-then-branch-clause-ends g t c e s h =
+    let q = calls_of {C = g.row.N.Denot} (units_in c.args.program.now) c.args.depth in
+    let m = c.args.self.now in
+    let names = m.frame.names.now in
+    let n = setting_at e in
+    let go : Bool → Runs g.row.N.Denot = λ p k. if p then run q n (steps_in names c.in-If.first) s k else run q n (steps_in names c.in-If.second) s k in
+    rw c.in-If.is (ends_ok e _ c.args.line true (stand n s) go m.left c.run.result c.run.new.self (c.in_ok-holds-in-If.ensures.holds e s h ∙ ap Ok c.if-branch.true) (c.run.ensures.ends e s h))
+
+pub perform-returns-else-branch-clause-ends : goal.perform-returns-else-branch-clause-ends
+perform-returns-else-branch-clause-ends g t c e s h =
+    let q = calls_of {C = g.row.N.Denot} (units_in c.args.program.now) c.args.depth in
+    let m = c.args.self.now in
+    let names = m.frame.names.now in
+    let n = setting_at e in
+    let go : Bool → Runs g.row.N.Denot = λ p k. if p then run q n (steps_in names c.in-If.first) s k else run q n (steps_in names c.in-If.second) s k in
+    rw c.in-If.is (ends_ok e _ c.args.line false (stand n s) go m.left c.run-else-branch.result c.run-else-branch.new.self (c.in_ok-holds-in-If.ensures.holds e s h ∙ ap Ok c.if-branch.false) (c.run-else-branch.ensures.ends e s h))
 
 pub perform-returns-in_err-holds-in-If-clause-ends : goal.perform-returns-in_err-holds-in-If-clause-ends
 perform-returns-in_err-holds-in-If-clause-ends g t c e s h =
@@ -147,10 +178,11 @@ perform-returns-in_err-first-in-Loop-clause-ends g t c e s h =
     let x = c.in_err-first-in-Loop.field-0.0 in
     let at = var_at names c.in-Loop.variable in
     let r : c.from_residual-in_err-first-in-Loop.result ≡ Err c.in_err-first-in-Loop.field-0.0 = search rules in
-    let go : ℤ → ℤ → ℕ → Outcome (Scene g.row.N.Denot) = λ u z i. then_do (turns n i (run q n (steps_in names c.in-Loop.body)) (stepped n at z) (with_turn n at (wrap u) s) c.args.self.now.left) (λ s1 j. Done (after_loop c.args.line i (in_force n mark s.store) s1) j) in
+    let go : ℤ → ℤ → ℕ → Runs g.row.N.Denot = λ u z i k. then_do (turns n i (run q n (steps_in names c.in-Loop.body)) (stepped n at z) (with_turn n at (wrap u) s) k) (λ s1 j. Done (after_loop c.args.line i (in_force n mark s.store) s1) j) in
+    let found = bounds_in n (term_in names b.first) (term_in names b.last) (term_in names b.by) mark s.store in
     rw (c.in-Loop.is, r)
-    (subst (λ z. Ends e z (Err x) c.args.self.now) (bounds_chain n (term_in names b.first) (term_in names b.last) (term_in names b.by) mark s.store c.args.line (stand n s) go)
-    (ends_err e _ c.args.line x c.args.self.now s (λ (p : ℤ × ℤ × ℕ). go p.0 p.1 p.2) (c.in_err-first-in-Loop.ensures.bounds e s h) h))
+    (ends_same e (λ k. with_value found c.args.line (stand n s) (λ p. go p.0 p.1 p.2 k)) _ c.args.self.now.left (Err x) c.args.self.now (λ k. bounds_chain n (term_in names b.first) (term_in names b.last) (term_in names b.by) mark s.store c.args.line (stand n s) (λ u z i. go u z i k))
+    (ends_err e found c.args.line x c.args.self.now s (λ (p : ℤ × ℤ × ℕ). go p.0 p.1 p.2) (c.in_err-first-in-Loop.ensures.bounds e s h) h))
 
 pub perform-returns-in_ok-first-in-Loop-clause-ends : goal.perform-returns-in_ok-first-in-Loop-clause-ends
 perform-returns-in_ok-first-in-Loop-clause-ends g t c e s h =
@@ -167,13 +199,17 @@ perform-returns-in_ok-first-in-Loop-clause-ends g t c e s h =
     let fits_by : FitsSigned w64 c.in_ok-first-in-Loop.by = search rules in
     let bys = to_z-of_z w64 by fits_by in
     let word = to_z-of_z w64 first fits ∙ sym (wrap_word first fits) in
-    let go : ℤ → ℤ → ℕ → Outcome (Scene g.row.N.Denot) = λ u z i. then_do (turns n i (run q n (steps_in names c.in-Loop.body)) (stepped n at z) (with_turn n at (wrap u) s) c.args.self.now.left) (λ s1 j. Done (after_loop c.args.line i (in_force n mark s.store) s1) j) in
-    let done = subst (λ z. z) (λ i. Ends e (turns n count (run q n (steps_in (c.turn.ensures.names i) c.in-Loop.body)) (stepped n (var_at (c.turn.ensures.names i) c.in-Loop.variable) (bys i)) (with_turn n at (word i) s) (c.turn.ensures.left i)) c.turns.result c.turns.new.self)
+    let go : ℤ → ℤ → ℕ → Runs g.row.N.Denot = λ u z i k. then_do (turns n i (run q n (steps_in names c.in-Loop.body)) (stepped n at z) (with_turn n at (wrap u) s) k) (λ s1 j. Done (after_loop c.args.line i (in_force n mark s.store) s1) j) in
+    let found = bounds_in n (term_in names b.first) (term_in names b.last) (term_in names b.by) mark s.store in
+    let done = subst (λ z. z) (λ i. Ends e (turns n count (run q n (steps_in (c.turn.ensures.names i) c.in-Loop.body)) (stepped n (var_at (c.turn.ensures.names i) c.in-Loop.variable) (bys i)) (with_turn n at (word i) s)) (c.turn.ensures.left i) c.turns.result c.turns.new.self)
     (c.turns.ensures.ends e _ (c.turn.ensures.holds e s h)) in
     rw c.in-Loop.is
-    (subst (λ z. Ends e z c.turns.result c.turns.new.self) (bounds_chain n (term_in names b.first) (term_in names b.last) (term_in names b.by) mark s.store c.args.line (stand n s) go)
-    (ends_ok e _ c.args.line (first, by, count) (stand n s) (λ (p : ℤ × ℤ × ℕ). go p.0 p.1 p.2) c.turns.result c.turns.new.self (c.in_ok-first-in-Loop.ensures.bounds e s h)
-    (ends_loop e _ c.args.line count (in_force n mark s.store) c.turns.result c.turns.new.self done)))
+    (ends_same e (λ k. with_value found c.args.line (stand n s) (λ p. go p.0 p.1 p.2 k)) _ c.args.self.now.left c.turns.result c.turns.new.self (λ k. bounds_chain n (term_in names b.first) (term_in names b.last) (term_in names b.by) mark s.store c.args.line (stand n s) (λ u z i. go u z i k))
+    (ends_ok e found c.args.line (first, by, count) (stand n s) (λ (p : ℤ × ℤ × ℕ). go p.0 p.1 p.2) c.args.self.now.left c.turns.result c.turns.new.self (c.in_ok-first-in-Loop.ensures.bounds e s h)
+    (ends_loop e _ c.args.self.now.left c.args.line count (in_force n mark s.store) c.turns.result c.turns.new.self done)))
+
+pub perform-returns-in-Run-clause-ends : goal.perform-returns-in-Run-clause-ends
+perform-returns-in-Run-clause-ends g t c e s h = rw c.in-Run.is (c.serve.ensures.ends e s h)
 
 pub perform-returns-in-While-clause-ends : goal.perform-returns-in-While-clause-ends
 perform-returns-in-While-clause-ends g t c e s h =
@@ -197,9 +233,9 @@ turns-returns-then-not-count-clause-ends g t c e s h =
     let names = c.args.self.now.frame.names.now in
     let body = run q (setting_at e) (steps_in names c.args.body.now) in
     let after = stepped (setting_at e) (var_at names c.args.course.now.variable) c.args.course.now.by in
-    let o = turns (setting_at e) c.args.count body after s c.args.self.now.left in
+    let o = turns (setting_at e) c.args.count body after s in
     let none = c.count.ensures.none c.if-not-count.true in
-    subst (λ m. HasMore g.N.Number.numbers m o) (sym none.0) (turn_budget e body after c.loop-remaining.remaining o c.loop-remaining.self c.loop-remaining-test.true none.1 (c.loop-remaining.invariant.reached e s h))
+    subst (λ m. Ends e o c.args.self.now.left (Err stop.Budget) m) (sym none.0) (turn_budget e body after c.loop-remaining.remaining o c.loop-remaining.self c.loop-remaining-test.true none.1 (c.loop-remaining.invariant.reached e s h))
 
 pub turns-returns-in_err-run-clause-ends : goal.turns-returns-in_err-run-clause-ends
 turns-returns-in_err-run-clause-ends g t c e s h =
@@ -207,14 +243,14 @@ turns-returns-in_err-run-clause-ends g t c e s h =
     let names = c.args.self.now.frame.names.now in
     let body = run q (setting_at e) (steps_in names c.args.body.now) in
     let after = stepped (setting_at e) (var_at names c.args.course.now.variable) c.args.course.now.by in
-    let o = turns (setting_at e) c.args.count body after s c.args.self.now.left in
+    let o = turns (setting_at e) c.args.count body after s in
     let some = c.count.ensures.some c.if-not-count.false in
     let same = ap (λ (m : Machine _). m.frame.names.now) (sym some) ∙ c.loop-remaining.invariant.names in
     let x = c.in_err-run.field-0.0 in
     let r : c.from_residual.result ≡ Err c.in_err-run.field-0.0 = search rules in
-    subst (λ z. Ends e o z c.run.new.self) (sym r)
+    subst (λ z. Ends e o c.args.self.now.left z c.run.new.self) (sym r)
     (turn_break e body after c.loop-remaining.remaining o x c.loop-remaining.self c.count.new.self c.run.new.self c.loop-remaining-test.true some
-    (λ z g. subst (λ ns. Ends e (run q (setting_at e) (steps_in ns c.args.body.now) z c.count.new.self.left) (Err x) c.run.new.self) same (c.in_err-run.ensures.ends e z g))
+    (λ z g. subst (λ ns. Ends e (run q (setting_at e) (steps_in ns c.args.body.now) z) c.count.new.self.left (Err x) c.run.new.self) same (c.in_err-run.ensures.ends e z g))
     (c.loop-remaining.invariant.reached e s h))
 
 pub turns-advance-requires-clause-there : goal.turns-advance-requires-clause-there
@@ -237,9 +273,9 @@ turns-loop-remaining-preserved g t c =
           let q = calls_of {C = g.row.N.Denot} (units_in c.args.program.now) c.args.depth in
           let body = run q (setting_at e) (steps_in names c.args.body.now) in
           let after = stepped (setting_at e) (var_at names c.args.course.now.variable) c.args.course.now.by in
-          let o = turns (setting_at e) c.args.count body after s c.args.self.now.left in
+          let o = turns (setting_at e) c.args.count body after s in
           turn_next e body after c.loop-remaining.remaining o c.in_ok-run.field-0 c.loop-remaining.self c.count.new.self c.run.new.self c.advance.new.self c.loop-remaining-test.true some
-          (λ z g. subst (λ ns. Ends e (run q (setting_at e) (steps_in ns c.args.body.now) z c.count.new.self.left) (Ok c.in_ok-run.field-0) c.run.new.self) same (c.in_ok-run.ensures.ends e z g))
+          (λ z g. subst (λ ns. Ends e (run q (setting_at e) (steps_in ns c.args.body.now) z) c.count.new.self.left (Ok c.in_ok-run.field-0) c.run.new.self) same (c.in_ok-run.ensures.ends e z g))
           c.advance.ensures.left
           (λ z g. subst (λ ns. Holds e c.advance.new.self (stepped (setting_at e) (var_at ns c.args.course.now.variable) c.args.course.now.by z)) still (c.advance.ensures.holds e z g))
           (c.loop-remaining.invariant.reached e s h);
@@ -251,7 +287,7 @@ turns-returns-clause-ends g t c e s h =
     let names = c.args.self.now.frame.names.now in
     let body = run q (setting_at e) (steps_in names c.args.body.now) in
     let after = stepped (setting_at e) (var_at names c.args.course.now.variable) c.args.course.now.by in
-    let o = turns (setting_at e) c.args.count body after s c.args.self.now.left in
+    let o = turns (setting_at e) c.args.count body after s in
     let none : c.loop-remaining.remaining ≡ 0 = search rules in
     turn_end e body after c.loop-remaining.remaining o tt c.loop-remaining.self none (c.loop-remaining.invariant.reached e s h)
 
@@ -274,14 +310,14 @@ tests-returns-in_err-holds-clause-ends g t c e s h =
     let i = c.loop-self.remaining in
     let test : Scene g.row.N.Denot → Result Bool Trap = λ s1. holds (setting_at e) (test_in names c.args.test.now) s1.store in
     let body = run q (setting_at e) (steps_in names c.args.body.now) in
-    let o = tests (setting_at e) c.most_tests-remaining.result test line body s c.args.self.now.left in
-    let whole = ap (λ j. tests (setting_at e) j test line body s c.args.self.now.left) c.most_tests-remaining.ensures in
+    let o = tests (setting_at e) c.most_tests-remaining.result test line body s in
+    let whole = ap (λ j. tests (setting_at e) j test line body s) c.most_tests-remaining.ensures in
     let same = c.loop-self.invariant.names in
     let reached = c.loop-self.invariant.reached e s h in
     let x = c.in_err-holds.field-0.0 in
     let r : c.from_residual.result ≡ Err c.in_err-holds.field-0.0 = search rules in
-    subst (λ z. Ends e z c.from_residual.result c.loop-self.self) whole
-    (subst (λ z. Ends e o z c.loop-self.self) (sym r)
+    subst (λ z. Ends e z c.args.self.now.left c.from_residual.result c.loop-self.self) whole
+    (subst (λ z. Ends e o c.args.self.now.left z c.loop-self.self) (sym r)
     (test_err e test line body i o x c.loop-self.self (λ z g. subst (λ ns. Finds line (holds (setting_at e) (test_in ns c.args.test.now) z.store) (Err x)) same (c.in_err-holds.ensures.holds e z g)) reached))
 
 pub tests-returns-then-remaining-eq0-clause-ends : goal.tests-returns-then-remaining-eq0-clause-ends
@@ -292,12 +328,12 @@ tests-returns-then-remaining-eq0-clause-ends g t c e s h =
     let i = c.loop-self.remaining in
     let test : Scene g.row.N.Denot → Result Bool Trap = λ s1. holds (setting_at e) (test_in names c.args.test.now) s1.store in
     let body = run q (setting_at e) (steps_in names c.args.body.now) in
-    let o = tests (setting_at e) c.most_tests-remaining.result test line body s c.args.self.now.left in
-    let whole = ap (λ j. tests (setting_at e) j test line body s c.args.self.now.left) c.most_tests-remaining.ensures in
+    let o = tests (setting_at e) c.most_tests-remaining.result test line body s in
+    let whole = ap (λ j. tests (setting_at e) j test line body s) c.most_tests-remaining.ensures in
     let same = c.loop-self.invariant.names in
     let reached = c.loop-self.invariant.reached e s h in
     let found : (z : Scene g.row.N.Denot) → Holds e c.loop-self.self z → Finds {A = Bool} line (test z) (Ok true) = λ z g. ap (λ ns. holds (setting_at e) (test_in ns c.args.test.now) z.store) (sym same) ∙ c.in_ok-holds.ensures.holds e z g ∙ ap Ok c.if-branch.true in
-    subst (λ z. IsTrapped g.N.Number.numbers c.loop-self.self trap.Step line z) whole
+    subst (λ z. Ends e z c.args.self.now.left (Err (stop.Trap trap.Step line)) c.loop-self.self) whole
     (test_last e test line body i o c.loop-self.self c.if-remaining-eq0.true found reached)
 
 pub tests-returns-in_err-run-clause-ends : goal.tests-returns-in_err-run-clause-ends
@@ -308,18 +344,18 @@ tests-returns-in_err-run-clause-ends g t c e s h =
     let i = c.loop-self.remaining in
     let test : Scene g.row.N.Denot → Result Bool Trap = λ s1. holds (setting_at e) (test_in names c.args.test.now) s1.store in
     let body = run q (setting_at e) (steps_in names c.args.body.now) in
-    let o = tests (setting_at e) c.most_tests-remaining.result test line body s c.args.self.now.left in
-    let whole = ap (λ j. tests (setting_at e) j test line body s c.args.self.now.left) c.most_tests-remaining.ensures in
+    let o = tests (setting_at e) c.most_tests-remaining.result test line body s in
+    let whole = ap (λ j. tests (setting_at e) j test line body s) c.most_tests-remaining.ensures in
     let same = c.loop-self.invariant.names in
     let reached = c.loop-self.invariant.reached e s h in
     let found : (z : Scene g.row.N.Denot) → Holds e c.loop-self.self z → Finds {A = Bool} line (test z) (Ok true) = λ z g. ap (λ ns. holds (setting_at e) (test_in ns c.args.test.now) z.store) (sym same) ∙ c.in_ok-holds.ensures.holds e z g ∙ ap Ok c.if-branch.true in
     let x = c.in_err-run.field-0.0 in
     let some : 0 < c.loop-self.remaining = search rules in
     let r : c.from_residual-in_err-run.result ≡ Err c.in_err-run.field-0.0 = search rules in
-    subst (λ z. Ends e z c.from_residual-in_err-run.result c.run.new.self) whole
-    (subst (λ z. Ends e o z c.run.new.self) (sym r)
+    subst (λ z. Ends e z c.args.self.now.left c.from_residual-in_err-run.result c.run.new.self) whole
+    (subst (λ z. Ends e o c.args.self.now.left z c.run.new.self) (sym r)
     (test_break e test line body i o x c.loop-self.self c.run.new.self some found
-    (λ z g. subst (λ ns. Ends e (run q (setting_at e) (steps_in ns c.args.body.now) z c.loop-self.self.left) (Err x) c.run.new.self) same (c.in_err-run.ensures.ends e z g))
+    (λ z g. subst (λ ns. Ends e (run q (setting_at e) (steps_in ns c.args.body.now) z) c.loop-self.self.left (Err x) c.run.new.self) same (c.in_err-run.ensures.ends e z g))
     reached))
 
 pub tests-returns-then-not-count-clause-ends : goal.tests-returns-then-not-count-clause-ends
@@ -330,17 +366,17 @@ tests-returns-then-not-count-clause-ends g t c e s h =
     let i = c.loop-self.remaining in
     let test : Scene g.row.N.Denot → Result Bool Trap = λ s1. holds (setting_at e) (test_in names c.args.test.now) s1.store in
     let body = run q (setting_at e) (steps_in names c.args.body.now) in
-    let o = tests (setting_at e) c.most_tests-remaining.result test line body s c.args.self.now.left in
-    let whole = ap (λ j. tests (setting_at e) j test line body s c.args.self.now.left) c.most_tests-remaining.ensures in
+    let o = tests (setting_at e) c.most_tests-remaining.result test line body s in
+    let whole = ap (λ j. tests (setting_at e) j test line body s) c.most_tests-remaining.ensures in
     let same = c.loop-self.invariant.names in
     let reached = c.loop-self.invariant.reached e s h in
     let found : (z : Scene g.row.N.Denot) → Holds e c.loop-self.self z → Finds {A = Bool} line (test z) (Ok true) = λ z g. ap (λ ns. holds (setting_at e) (test_in ns c.args.test.now) z.store) (sym same) ∙ c.in_ok-holds.ensures.holds e z g ∙ ap Ok c.if-branch.true in
     let none = c.count.ensures.none c.if-not-count.true in
     let some : 0 < c.loop-self.remaining = search rules in
-    subst (λ z. HasMore g.N.Number.numbers c.count.new.self z) whole
-    (subst (λ m. HasMore g.N.Number.numbers m o) (sym none.0)
+    subst (λ z. Ends e z c.args.self.now.left (Err stop.Budget) c.count.new.self) whole
+    (subst (λ m. Ends e o c.args.self.now.left (Err stop.Budget) m) (sym none.0)
     (test_budget e test line body i o c.in_ok-run.field-0 c.loop-self.self c.run.new.self some found
-    (λ z g. subst (λ ns. Ends e (run q (setting_at e) (steps_in ns c.args.body.now) z c.loop-self.self.left) (Ok c.in_ok-run.field-0) c.run.new.self) same (c.in_ok-run.ensures.ends e z g))
+    (λ z g. subst (λ ns. Ends e (run q (setting_at e) (steps_in ns c.args.body.now) z) c.loop-self.self.left (Ok c.in_ok-run.field-0) c.run.new.self) same (c.in_ok-run.ensures.ends e z g))
     none.1 reached))
 
 pub tests-loop-self-preserved : goal.tests-loop-self-preserved
@@ -362,10 +398,10 @@ tests-loop-self-preserved g t c =
           let q = calls_of {C = g.row.N.Denot} (units_in c.args.program.now) c.args.depth in
           let test : Scene g.row.N.Denot → Result Bool Trap = λ s1. holds (setting_at e) (test_in names c.args.test.now) s1.store in
           let body = run q (setting_at e) (steps_in names c.args.body.now) in
-          let o = tests (setting_at e) c.most_tests-remaining.result test line body s c.args.self.now.left in
+          let o = tests (setting_at e) c.most_tests-remaining.result test line body s in
           test_next e test line body c.loop-self.remaining o c.in_ok-run.field-0 c.loop-self.self c.run.new.self c.count.new.self positive
           (λ (z : Scene g.row.N.Denot) g. ap (λ ns. holds (setting_at e) (test_in ns c.args.test.now) z.store) (sym same) ∙ c.in_ok-holds.ensures.holds e z g ∙ ap Ok c.if-branch.true)
-          (λ z g. subst (λ ns. Ends e (run q (setting_at e) (steps_in ns c.args.body.now) z c.loop-self.self.left) (Ok c.in_ok-run.field-0) c.run.new.self) same (c.in_ok-run.ensures.ends e z g))
+          (λ z g. subst (λ ns. Ends e (run q (setting_at e) (steps_in ns c.args.body.now) z) c.loop-self.self.left (Ok c.in_ok-run.field-0) c.run.new.self) same (c.in_ok-run.ensures.ends e z g))
           some
           (c.loop-self.invariant.reached e s h);
     }
@@ -378,12 +414,12 @@ tests-returns-clause-ends g t c e s h =
     let i = c.loop-self.remaining in
     let test : Scene g.row.N.Denot → Result Bool Trap = λ s1. holds (setting_at e) (test_in names c.args.test.now) s1.store in
     let body = run q (setting_at e) (steps_in names c.args.body.now) in
-    let o = tests (setting_at e) c.most_tests-remaining.result test line body s c.args.self.now.left in
-    let whole = ap (λ j. tests (setting_at e) j test line body s c.args.self.now.left) c.most_tests-remaining.ensures in
+    let o = tests (setting_at e) c.most_tests-remaining.result test line body s in
+    let whole = ap (λ j. tests (setting_at e) j test line body s) c.most_tests-remaining.ensures in
     let same = c.loop-self.invariant.names in
     let reached = c.loop-self.invariant.reached e s h in
     let found : (z : Scene g.row.N.Denot) → Holds e c.loop-self.self z → Finds {A = Bool} line (test z) (Ok false) = λ z g. ap (λ ns. holds (setting_at e) (test_in ns c.args.test.now) z.store) (sym same) ∙ c.in_ok-holds.ensures.holds e z g ∙ ap Ok c.if-branch.false in
-    subst (λ z. IsDone e c.loop-self.self z) whole
+    subst (λ z. Ends e z c.args.self.now.left (Ok tt) c.loop-self.self) whole
     (test_end e test line body i o tt c.loop-self.self found reached)
 
 -- ---- calls
@@ -423,8 +459,9 @@ call-returns-then-depth-eq0-clause-ends g t c name found e s h =
 pub call-returns-then-number-program-clause-ends : goal.call-returns-then-number-program-clause-ends
 call-returns-then-number-program-clause-ends g t c name found e s h =
     let m = c.args.self.now in
-    let past = call_past c.args.program.now c.args.depth c.args.number name (positive c.args.depth c.if-depth-eq0.false) found (setting_at e) (terms_in m.frame.names.now c.args.terms.now) c.args.line s m.left c.if-number-program.true in
-    subst (IsTrapped g.N.Number.numbers m trap.Shape c.args.line) (sym past) (refl, refl, holds_stand e m s h)
+    let past = call_past c.args.program.now c.args.depth c.args.number name (positive c.args.depth c.if-depth-eq0.false) found (setting_at e) (terms_in m.frame.names.now c.args.terms.now) c.args.line s c.if-number-program.true in
+    subst (λ z. Ends e z m.left (Err (stop.Trap trap.Shape c.args.line)) m) (sym past)
+    (uses_none (λ k. Trapped shape_trap c.args.line (stand (setting_at e) s)) m.left m.left refl (λ j. IsTrapped g.N.Number.numbers m trap.Shape c.args.line) (λ j. (refl, refl, holds_stand e m s h)))
 
 pub call-returns-in_err-actuals-clause-ends : goal.call-returns-in_err-actuals-clause-ends
 call-returns-in_err-actuals-clause-ends g t c name found e s h =
@@ -435,12 +472,12 @@ call-returns-in_err-actuals-clause-ends g t c name found e s h =
     let r = c.index-program-number.result in
     let lt = c.if-number-program.false in
     let k = subst (IsRoutine (units_in rs)) (sym c.index-program-number.is) (c.requires.program c.args.number r lt) in
-    let at = call_at rs c.args.depth c.args.number name (positive c.args.depth c.if-depth-eq0.false) found (setting_at e) args c.args.line s m.left r r.writes.now lt c.index-program-number.is k.writes in
+    let at = call_at rs c.args.depth c.args.number name (positive c.args.depth c.if-depth-eq0.false) found (setting_at e) args c.args.line s r r.writes.now lt c.index-program-number.is k.writes in
     let x = c.in_err-actuals.field-0.0 in
     let err : c.from_residual.result ≡ Err c.in_err-actuals.field-0.0 = search rules in
-    let o = calls_of {C = g.row.N.Denot} (units_in rs) c.args.depth (setting_at e) name args c.args.line s m.left in
-    subst (λ z. Ends e o z m) (sym err)
-    (subst (λ z. Ends e z (Err x) m) (sym at) (call_err (calls_of {C = g.row.N.Denot} (units_in rs) (c.args.depth - 1)) e s r r.writes.now args c.args.line m.left m h (λ (v : Vec (Actual _) Global). actuals_in names e.shape s.store v.items) x (c.in_err-actuals.ensures.actuals e.shape (Some e.room) e.level s.store h.shown)))
+    let o = calls_of {C = g.row.N.Denot} (units_in rs) c.args.depth (setting_at e) name args c.args.line s in
+    subst (λ z. Ends e o m.left z m) (sym err)
+    (subst (λ z. Ends e z m.left (Err x) m) (sym at) (call_err (calls_of {C = g.row.N.Denot} (units_in rs) (c.args.depth - 1)) e s r r.writes.now args c.args.line m h (λ (v : Vec (Actual _) Global). actuals_in names e.shape s.store v.items) x (c.in_err-actuals.ensures.actuals e.shape (Some e.room) e.level s.store h.shown)))
 
 pub call-returns-in_err-frame-clause-ends : goal.call-returns-in_err-frame-clause-ends
 call-returns-in_err-frame-clause-ends g t c name found e s h =
@@ -451,14 +488,14 @@ call-returns-in_err-frame-clause-ends g t c name found e s h =
     let r = c.index-program-number.result in
     let lt = c.if-number-program.false in
     let k = subst (IsRoutine (units_in rs)) (sym c.index-program-number.is) (c.requires.program c.args.number r lt) in
-    let at = call_at rs c.args.depth c.args.number name (positive c.args.depth c.if-depth-eq0.false) found (setting_at e) args c.args.line s m.left r r.writes.now lt c.index-program-number.is k.writes in
+    let at = call_at rs c.args.depth c.args.number name (positive c.args.depth c.if-depth-eq0.false) found (setting_at e) args c.args.line s r r.writes.now lt c.index-program-number.is k.writes in
     let x = c.in_err-frame.field-0.0 in
     let err : c.from_residual-in_err-frame.result ≡ Err c.in_err-frame.field-0.0 = search rules in
-    let o = calls_of {C = g.row.N.Denot} (units_in rs) c.args.depth (setting_at e) name args c.args.line s m.left in
+    let o = calls_of {C = g.row.N.Denot} (units_in rs) c.args.depth (setting_at e) name args c.args.line s in
     let got = actuals_in names e.shape s.store c.in_ok-actuals.actuals.items in
     let misfit = misfit_at x c.args.line (λ f. ap (λ all. fit_from g.N.Number.numbers r (actuals_in names e.shape s.store all) 0) (sym c.as_slice.ensures.value) ∙ f e.shape s.store h.shown) c.in_err-frame.ensures.misfit in
-    subst (λ z. Ends e o z m) (sym err)
-    (subst (λ z. Ends e z (Err x) m) (sym at) (call_misfit (calls_of {C = g.row.N.Denot} (units_in rs) (c.args.depth - 1)) e s r r.writes.now args c.args.line m.left m h got (c.in_ok-actuals.ensures.actuals e.shape (Some e.room) e.level s.store h.shown) x misfit))
+    subst (λ z. Ends e o m.left z m) (sym err)
+    (subst (λ z. Ends e z m.left (Err x) m) (sym at) (call_misfit (calls_of {C = g.row.N.Denot} (units_in rs) (c.args.depth - 1)) e s r r.writes.now args c.args.line m h got (c.in_ok-actuals.ensures.actuals e.shape (Some e.room) e.level s.store h.shown) x misfit))
 
 pub call-run-ended-requires : goal.call-run-ended-requires
 call-run-ended-requires g t c κs alive =
@@ -516,10 +553,10 @@ call-returns-in_err-ended-clause-ends g t c name found e s h =
     let r = c.index-program-number.result in
     let lt = c.if-number-program.false in
     let k = subst (IsRoutine (units_in rs)) (sym c.index-program-number.is) (c.requires.program c.args.number r lt) in
-    let at = call_at rs c.args.depth c.args.number name (positive c.args.depth c.if-depth-eq0.false) found (setting_at e) args c.args.line s m.left r r.writes.now lt c.index-program-number.is k.writes in
+    let at = call_at rs c.args.depth c.args.number name (positive c.args.depth c.if-depth-eq0.false) found (setting_at e) args c.args.line s r r.writes.now lt c.index-program-number.is k.writes in
     let x = c.in_err-ended.field-0.0 in
     let err : c.from_residual-in_err-ended.result ≡ Err c.in_err-ended.field-0.0 = search rules in
-    let o = calls_of {C = g.row.N.Denot} (units_in rs) c.args.depth (setting_at e) name args c.args.line s m.left in
+    let o = calls_of {C = g.row.N.Denot} (units_in rs) c.args.depth (setting_at e) name args c.args.line s in
     let q = calls_of {C = g.row.N.Denot} (units_in rs) (c.args.depth - 1) in
     let got = actuals_in names e.shape s.store c.in_ok-actuals.actuals.items in
     let value = c.as_slice.ensures.value in
@@ -530,9 +567,9 @@ call-returns-in_err-ended-clause-ends g t c name found e s h =
     let holds = c.in_ok-outer.ensures.holds e s (shapes_with g.N.Number.numbers r got) (entered_with g.N.Number.numbers r got) r.unit.now.name _ h here in
     let ends = unit_ends q (inside e (shapes_with g.N.Number.numbers r got) (length m.tally.begun)) _ r c.enter.new.self.frame.names.now m.left c.enter.new.self.left (Err x) c.run-ended.new.self (ap (λ (z : Frame _). z.names.now) c.in_ok-outer.ensures.frame ∙ f.names) k.body c.in_ok-outer.ensures.left (c.in_err-ended.ensures.ends (inside e (shapes_with g.N.Number.numbers r got) (length m.tally.begun)) _ holds) in
     let back = c.leave-inner.ensures.back in
-    subst (λ z. Ends e o z c.leave-inner.new.self) (sym err)
-    (subst (λ z. Ends e z (Err x) c.leave-inner.new.self) (sym at)
-    (call_break q e s r r.writes.now args c.args.line m.left m h got (c.in_ok-actuals.ensures.actuals e.shape (Some e.room) e.level s.store h.shown) fit c.run-ended.new.self x c.leave-inner.new.self ends (ap (λ (z : Machine _). z.tape) back) (ap (λ (z : Machine _). z.tally) back)))
+    subst (λ z. Ends e o m.left z c.leave-inner.new.self) (sym err)
+    (subst (λ z. Ends e z m.left (Err x) c.leave-inner.new.self) (sym at)
+    (call_break q e s r r.writes.now args c.args.line m h got (c.in_ok-actuals.ensures.actuals e.shape (Some e.room) e.level s.store h.shown) fit c.run-ended.new.self x c.leave-inner.new.self ends (ap (λ (z : Machine _). z.left) back) (ap (λ (z : Machine _). z.tape) back) (ap (λ (z : Machine _). z.tally) back)))
 
 pub call-returns-then-not-is_closed-clause-ends : goal.call-returns-then-not-is_closed-clause-ends
 call-returns-then-not-is_closed-clause-ends g t c name found e s h =
@@ -543,7 +580,7 @@ call-returns-then-not-is_closed-clause-ends g t c name found e s h =
     let r = c.index-program-number.result in
     let lt = c.if-number-program.false in
     let k = subst (IsRoutine (units_in rs)) (sym c.index-program-number.is) (c.requires.program c.args.number r lt) in
-    let at = call_at rs c.args.depth c.args.number name (positive c.args.depth c.if-depth-eq0.false) found (setting_at e) args c.args.line s m.left r r.writes.now lt c.index-program-number.is k.writes in
+    let at = call_at rs c.args.depth c.args.number name (positive c.args.depth c.if-depth-eq0.false) found (setting_at e) args c.args.line s r r.writes.now lt c.index-program-number.is k.writes in
     let q = calls_of {C = g.row.N.Denot} (units_in rs) (c.args.depth - 1) in
     let got = actuals_in names e.shape s.store c.in_ok-actuals.actuals.items in
     let value = c.as_slice.ensures.value in
@@ -554,8 +591,8 @@ call-returns-then-not-is_closed-clause-ends g t c name found e s h =
     let holds = c.in_ok-outer.ensures.holds e s (shapes_with g.N.Number.numbers r got) (entered_with g.N.Number.numbers r got) r.unit.now.name _ h here in
     let ends = unit_ends q (inside e (shapes_with g.N.Number.numbers r got) (length m.tally.begun)) _ r c.enter.new.self.frame.names.now m.left c.enter.new.self.left (Ok tt) c.run-ended.new.self (ap (λ (z : Frame _). z.names.now) c.in_ok-outer.ensures.frame ∙ f.names) k.body c.in_ok-outer.ensures.left (c.in_ok-ended.ensures.ends (inside e (shapes_with g.N.Number.numbers r got) (length m.tally.begun)) _ holds) in
     let back = c.leave-inner.ensures.back in
-    subst (IsTrapped g.N.Number.numbers c.leave-inner.new.self trap.Schedule c.args.line) (sym at)
-    (call_open q e s r r.writes.now args c.args.line m.left m h got (c.in_ok-actuals.ensures.actuals e.shape (Some e.room) e.level s.store h.shown) fit c.run-ended.new.self c.leave-inner.new.self ends (sym c.leave-inner.ensures.closed ∙ c.if-not-is_closed.true) (ap (λ (z : Machine _). z.tape) back) (ap (λ (z : Machine _). z.tally) back))
+    subst (λ z. Ends e z m.left (Err (stop.Trap trap.Schedule c.args.line)) c.leave-inner.new.self) (sym at)
+    (call_open q e s r r.writes.now args c.args.line m h got (c.in_ok-actuals.ensures.actuals e.shape (Some e.room) e.level s.store h.shown) fit c.run-ended.new.self c.leave-inner.new.self ends (sym c.leave-inner.ensures.closed ∙ c.if-not-is_closed.true) (ap (λ (z : Machine _). z.left) back) (ap (λ (z : Machine _). z.tape) back) (ap (λ (z : Machine _). z.tally) back))
 
 pub call-returns-clause-ends : goal.call-returns-clause-ends
 call-returns-clause-ends g t c name found e s h =
@@ -566,8 +603,8 @@ call-returns-clause-ends g t c name found e s h =
     let r = c.index-program-number.result in
     let lt = c.if-number-program.false in
     let k = subst (IsRoutine (units_in rs)) (sym c.index-program-number.is) (c.requires.program c.args.number r lt) in
-    let at = call_at rs c.args.depth c.args.number name (positive c.args.depth c.if-depth-eq0.false) found (setting_at e) args c.args.line s m.left r r.writes.now lt c.index-program-number.is k.writes in
-    let o = calls_of {C = g.row.N.Denot} (units_in rs) c.args.depth (setting_at e) name args c.args.line s m.left in
+    let at = call_at rs c.args.depth c.args.number name (positive c.args.depth c.if-depth-eq0.false) found (setting_at e) args c.args.line s r r.writes.now lt c.index-program-number.is k.writes in
+    let o = calls_of {C = g.row.N.Denot} (units_in rs) c.args.depth (setting_at e) name args c.args.line s in
     let q = calls_of {C = g.row.N.Denot} (units_in rs) (c.args.depth - 1) in
     let got = actuals_in names e.shape s.store c.in_ok-actuals.actuals.items in
     let value = c.as_slice.ensures.value in
@@ -588,8 +625,8 @@ call-returns-clause-ends g t c name found e s h =
     let inner = c.leave-inner.ensures.frame in
     let inner_names = ap (λ (z : Frame _). z.names.now) inner ∙ c.in_ok-ended.ensures.names ∙ entered_names in
     let handed = c.hand_back.ensures.handed in
-    subst (IsDone e m3) (sym at)
-    (call_done q e s r r.writes.now args c.args.line m.left m h got (c.in_ok-actuals.ensures.actuals e.shape (Some e.room) e.level s.store h.shown) fit m1 m3 ends (sym c.leave-inner.ensures.closed ∙ c.if-not-is_closed.false)
+    subst (λ z. Ends e z m.left (Ok tt) m3) (sym at)
+    (call_done q e s r r.writes.now args c.args.line m h got (c.in_ok-actuals.ensures.actuals e.shape (Some e.room) e.level s.store h.shown) fit m1 m3 ends (sym c.leave-inner.ensures.closed ∙ c.if-not-is_closed.false)
     (ap (λ (z : Machine _). z.tape) same ∙ ap (λ (z : Machine _). z.tape) back)
     (ap (λ (z : Machine _). z.tally) same ∙ ap (λ (z : Machine _). z.tally) back)
     (ap (λ (z : Machine _). z.left) same ∙ ap (λ (z : Machine _). z.left) back)

@@ -25,7 +25,7 @@ invariant-run-loop-current g l = record {
   linked : AreLinked (units_in l.program) l.current;
   suited : AreSuited (units_in l.program) (OneCelled l.initial.self) (steps_in l.initial.self.frame.names.now l.current);
   reached : (e : Entry g.N.Number.numbers) (s : Scene g.row.N.Denot) → Holds e l.initial.self s →
-      Reaches e (run (calls_of (units_in l.program) l.depth) (setting_at e) (steps_in l.initial.self.frame.names.now l.initial.current) s l.initial.self.left) (run (calls_of (units_in l.program) l.depth) (setting_at e) (steps_in l.initial.self.frame.names.now l.current)) l.self;
+      Reaches e (run (calls_of (units_in l.program) l.depth) (setting_at e) (steps_in l.initial.self.frame.names.now l.initial.current) s) l.initial.self.left (run (calls_of (units_in l.program) l.depth) (setting_at e) (steps_in l.initial.self.frame.names.now l.current)) l.self;
 }
 
 abbrev pub invariant-turns-loop-remaining : goal.invariant-turns-loop-remaining
@@ -35,7 +35,7 @@ invariant-turns-loop-remaining g l = record {
   framed : IsFrame l.initial.self.frame.names.now l.self.frame.slots.items;
   counts : counts_in l.self.frame.slots.items ≡ counts_in l.initial.self.frame.slots.items;
   reached : (e : Entry g.N.Number.numbers) (s : Scene g.row.N.Denot) → Holds e l.initial.self s →
-      Reaches e (turns (setting_at e) l.initial.remaining (run (calls_of (units_in l.program) l.depth) (setting_at e) (steps_in l.initial.self.frame.names.now l.body)) (stepped (setting_at e) (var_at l.initial.self.frame.names.now l.course.variable) l.course.by) s l.initial.self.left)
+      Reaches e (turns (setting_at e) l.initial.remaining (run (calls_of (units_in l.program) l.depth) (setting_at e) (steps_in l.initial.self.frame.names.now l.body)) (stepped (setting_at e) (var_at l.initial.self.frame.names.now l.course.variable) l.course.by) s) l.initial.self.left
       (turns (setting_at e) l.remaining (run (calls_of (units_in l.program) l.depth) (setting_at e) (steps_in l.initial.self.frame.names.now l.body)) (stepped (setting_at e) (var_at l.initial.self.frame.names.now l.course.variable) l.course.by)) l.self;
 }
 
@@ -49,7 +49,7 @@ invariant-tests-loop-self g l = record {
   framed : IsFrame l.initial.self.frame.names.now l.self.frame.slots.items;
   counts : counts_in l.self.frame.slots.items ≡ counts_in l.initial.self.frame.slots.items;
   reached : (e : Entry g.N.Number.numbers) (s : Scene g.row.N.Denot) → Holds e l.initial.self s →
-      Reaches e (tests (setting_at e) l.initial.remaining (λ s1. holds (setting_at e) (test_in l.initial.self.frame.names.now l.test) s1.store) l.line (run (calls_of (units_in l.program) l.depth) (setting_at e) (steps_in l.initial.self.frame.names.now l.body)) s l.initial.self.left)
+      Reaches e (tests (setting_at e) l.initial.remaining (λ s1. holds (setting_at e) (test_in l.initial.self.frame.names.now l.test) s1.store) l.line (run (calls_of (units_in l.program) l.depth) (setting_at e) (steps_in l.initial.self.frame.names.now l.body)) s) l.initial.self.left
       (tests (setting_at e) l.remaining (λ s1. holds (setting_at e) (test_in l.initial.self.frame.names.now l.test) s1.store) l.line (run (calls_of (units_in l.program) l.depth) (setting_at e) (steps_in l.initial.self.frame.names.now l.body))) l.self;
 }
 

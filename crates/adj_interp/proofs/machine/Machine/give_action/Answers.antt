@@ -1,11 +1,13 @@
-use Rattle.std.proofs.Common.{rules, ◌≡◌, sym, ap, subst, ◌∙◌}
+use Rattle.std.proofs.Common.{rules, ◌≡◌, ap, subst, ◌∙◌}
 use Rattle.std.specs.Prelude.{Ok, Err}
 use Rattle.adj_revolve.specs.declared.machine.Action.{Action}
-use Rattle.def_meaning.specs.Scene.{Scene, Outcome, Done, stand}
+use Rattle.adj_tree.specs.Code.{give_action}
+use Rattle.def_meaning.specs.Scene.{Done, stand, with_value}
+use Rattle.def_meaning.specs.Runtime.{runtime_act}
 use Rattle.adj_interp.specs.declared.machine.Machine.{Machine}
 use Rattle.adj_interp_frame.specs.Prepared.{var_at, term_in}
-use Rattle.adj_interp.specs.Held.{setting_at, Holds, Ends, given_in}
-use Rattle.adj_interp.proofs.Driving.{ends_ok, ends_err}
+use Rattle.adj_interp.specs.Held.{setting_at, Holds, Runs, Ends, action_in, given_in}
+use Rattle.adj_interp.proofs.Driving.{ends_same, ends_ok, ends_err, done_at_once}
 use Rattle.adj_interp.proofs.Plans.{action_chain}
 use Rattle.adj_interp.proofs.Serving.{holds_cursor}
 use Rattle.adj_interp.proofs.machine.Machine.give_action.Goals as goal
@@ -18,10 +20,21 @@ returns-in_err-action-clause-ends g c e s h =
     let n = setting_at e in
     let x = c.in_err-action.field-0.0 in
     let r : c.from_residual.result ≡ Err c.in_err-action.field-0.0 = search rules in
-    let go : Action → Outcome (Scene g.row.N.Denot) = λ b. Done (given_in n (var_at names c.args.targets.0) (var_at names c.args.targets.1) (var_at names c.args.targets.2) b s) m.left in
+    let x1 = var_at names c.args.targets.0 in
+    let x2 = var_at names c.args.targets.1 in
+    let x3 = var_at names c.args.targets.2 in
+    let steps = term_in names c.args.steps.now in
+    let snapshots = term_in names c.args.snapshots.now in
+    let number = term_in names c.args.number.now in
+    let found = action_in n steps snapshots number s.store in
+    let go : Action → Runs g.row.N.Denot = λ b k. Done (given_in n x1 x2 x3 b s) k in
+    let whole = runtime_act n (give_action steps snapshots number x1 x2 x3) c.args.line s in
+    let rest = c.in_err-action.ensures.rest in
+    let left : m1.left ≡ m.left = ap (λ (z : Machine _). z.left) rest in
     rw r
-    (subst (λ z. Ends e z (Err x) m1) (action_chain n (term_in names c.args.steps.now) (term_in names c.args.snapshots.now) (term_in names c.args.number.now) s.store c.args.line (stand n s) go)
-    (ends_err e _ c.args.line x m1 s go (c.in_err-action.ensures.action e s h) (holds_cursor e m m1 m1.cursor s c.in_err-action.ensures.rest h)))
+    (subst (λ k. Ends e whole k (Err x) m1) left
+    (ends_same e (λ k. with_value found c.args.line (stand n s) (λ b. go b k)) whole m1.left (Err x) m1 (λ k. action_chain n steps snapshots number s.store c.args.line (stand n s) (λ b. go b k))
+    (ends_err e found c.args.line x m1 s go (c.in_err-action.ensures.action e s h) (holds_cursor e m m1 m1.cursor s rest h))))
 
 pub returns-clause-ends : goal.returns-clause-ends
 returns-clause-ends g c e s h =
@@ -35,7 +48,15 @@ returns-clause-ends g c e s h =
     let held = holds_cursor e m m1 m1.cursor s rest h in
     let same : m1.frame.names.now ≡ names = ap (λ (z : Machine _). z.frame.names.now) rest in
     let left : m2.left ≡ m.left = c.give.ensures.left ∙ ap (λ (z : Machine _). z.left) rest in
-    let go : Action → Outcome (Scene g.row.N.Denot) = λ b. Done (given_in n (var_at names c.args.targets.0) (var_at names c.args.targets.1) (var_at names c.args.targets.2) b s) m.left in
-    subst (λ z. Ends e z (Ok tt) m2) (action_chain n (term_in names c.args.steps.now) (term_in names c.args.snapshots.now) (term_in names c.args.number.now) s.store c.args.line (stand n s) go)
-    (ends_ok e _ c.args.line a (stand n s) go (Ok tt) m2 (c.in_ok-action.ensures.action e s h)
-    (subst (λ ns. Holds e m2 (given_in n (var_at ns c.args.targets.0) (var_at ns c.args.targets.1) (var_at ns c.args.targets.2) a s)) same (c.give.ensures.holds e s held), sym left))
+    let x1 = var_at names c.args.targets.0 in
+    let x2 = var_at names c.args.targets.1 in
+    let x3 = var_at names c.args.targets.2 in
+    let steps = term_in names c.args.steps.now in
+    let snapshots = term_in names c.args.snapshots.now in
+    let number = term_in names c.args.number.now in
+    let found = action_in n steps snapshots number s.store in
+    let go : Action → Runs g.row.N.Denot = λ b k. Done (given_in n x1 x2 x3 b s) k in
+    let whole = runtime_act n (give_action steps snapshots number x1 x2 x3) c.args.line s in
+    let given = subst (λ ns. Holds e m2 (given_in n (var_at ns c.args.targets.0) (var_at ns c.args.targets.1) (var_at ns c.args.targets.2) a s)) same (c.give.ensures.holds e s held) in
+    ends_same e (λ k. with_value found c.args.line (stand n s) (λ b. go b k)) whole m.left (Ok tt) m2 (λ k. action_chain n steps snapshots number s.store c.args.line (stand n s) (λ b. go b k))
+    (ends_ok e found c.args.line a (stand n s) go m.left (Ok tt) m2 (c.in_ok-action.ensures.action e s h) (done_at_once e m m2 (given_in n x1 x2 x3 a s) given left))

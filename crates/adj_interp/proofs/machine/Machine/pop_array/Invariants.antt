@@ -16,7 +16,7 @@ invariant-loop-remaining g l = record {
   counts : counts_in l.self.frame.slots.items ≡ counts_in l.initial.self.frame.slots.items;
   within : (d : Slot _) → l.remaining ≤ length (get_or l.self.frame.slots.items l.variable d).cells.items;
   reached : (e : Entry g.N.Number.numbers) (s : Scene g.row.N.Denot) → Holds e l.initial.self s →
-      Reaches e (popped_all (setting_at e) (var_at l.initial.self.frame.names.now l.variable) l.initial.remaining l.line s l.initial.self.left)
+      Reaches e (popped_all (setting_at e) (var_at l.initial.self.frame.names.now l.variable) l.initial.remaining l.line s) l.initial.self.left
       (popped_all (setting_at e) (var_at l.initial.self.frame.names.now l.variable) l.remaining l.line) l.self;
 }
 

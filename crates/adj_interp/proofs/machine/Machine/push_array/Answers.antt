@@ -1,5 +1,5 @@
 use Rattle.std.proofs.Common.{rules, ◌≡◌, ◌<◌, ◌≤◌, ◌-◌, ℕ, length, get_or, refl, sym, ap, subst, ◌∙◌, arith}
-use Rattle.std.specs.Prelude.{Err}
+use Rattle.std.specs.Prelude.{Ok, Err}
 use Rattle.std.proofs.lemmas.List.{get_or_default}
 use Rattle.def_meaning.specs.Numbers.{Numbers}
 use Rattle.def_meaning.specs.Store.{cells_from}
@@ -9,7 +9,7 @@ use Rattle.adj_interp_frame.specs.declared.frame.Frame.{Frame}
 use Rattle.adj_interp.specs.declared.machine.Machine.{Machine}
 use Rattle.adj_interp_frame.specs.Prepared.{var_at}
 use Rattle.adj_interp_frame.specs.Framed.{zero_in, IsFrame}
-use Rattle.adj_interp.specs.Held.{Entry, setting_at, Holds, Ends, IsDone, Reaches}
+use Rattle.adj_interp.specs.Held.{Entry, setting_at, Holds, Ends, Reaches}
 use Rattle.adj_interp.proofs.Driving.{reaches_start}
 use Rattle.adj_interp.proofs.Serving.{counted_cells, held_cell, all_next, all_break, all_end}
 use Rattle.adj_interp.proofs.machine.Machine.push_array.Goals as goal
@@ -33,7 +33,7 @@ loop-cell-init g c = record {
       let f = s.store (var_at m.frame.names.now c.args.variable) in
       let count = c.len-count.result in
       let all : count ≡ count - 0 = omega arith in
-      subst (λ j. Reaches e (pushed_all (setting_at e) (cells_from f 0 count) s m.left) (pushed_all (setting_at e) (cells_from f 0 j)) m) all (reaches_start e (pushed_all (setting_at e) (cells_from f 0 count)) m s h);
+      subst (λ j. Reaches e (pushed_all (setting_at e) (cells_from f 0 count) s) m.left (pushed_all (setting_at e) (cells_from f 0 j)) m) all (reaches_start e (pushed_all (setting_at e) (cells_from f 0 count)) m s h);
 }
 
 pub returns-in_err-push-clause-ends : goal.returns-in_err-push-clause-ends
@@ -50,12 +50,12 @@ returns-in_err-push-clause-ends g c line e s h =
     let counted : count ≡ length d.cells.items = search rules in
     let i = c.loop-cell.cell in
     let w = c.index-number.result.now in
-    let o = pushed_all (setting_at e) (cells_from f 0 count) s m.left in
+    let o = pushed_all (setting_at e) (cells_from f 0 count) s in
     let lt = c.loop-cell-test.true in
     let r : c.from_residual.result ≡ Err c.in_err-push.field-0.0 = search rules in
     let read = cell_read e m c.loop-cell.self.frame s c.args.variable i d c.index-in-loop-cell.result.now w h c.requires.framed c.requires.there c.index.ensures c.loop-cell.invariant.frame c.index-in-loop-cell.ensures (subst (λ z. i < z) counted lt) c.index-number.ensures in
-    subst (λ j. Ends e (pushed_all (setting_at e) (cells_from f 0 j) s m.left) c.from_residual.result c.push.new.self) (counted_cells e m s c.args.variable d h c.requires.framed there count c.index.ensures counted)
-    (subst (λ z. Ends e o z c.push.new.self) (sym r)
+    subst (λ j. Ends e (pushed_all (setting_at e) (cells_from f 0 j) s) m.left c.from_residual.result c.push.new.self) (counted_cells e m s c.args.variable d h c.requires.framed there count c.index.ensures counted)
+    (subst (λ z. Ends e o m.left z c.push.new.self) (sym r)
     (all_break e f i count w o c.in_err-push.field-0.0 c.loop-cell.self c.push.new.self lt read (c.loop-cell.invariant.reached e s h)
     (λ z g. c.in_err-push.ensures.ends e z g)))
 
@@ -71,7 +71,7 @@ loop-cell-preserved g c = record {
       let counted : count ≡ length d.cells.items = search rules in
       let i = c.loop-cell.cell in
       let w = c.index-number.result.now in
-      let o = pushed_all (setting_at e) (cells_from f 0 count) s m.left in
+      let o = pushed_all (setting_at e) (cells_from f 0 count) s in
       let lt = c.loop-cell-test.true in
       let read = cell_read e m c.loop-cell.self.frame s c.args.variable i d c.index-in-loop-cell.result.now w h c.requires.framed c.requires.there c.index.ensures c.loop-cell.invariant.frame c.index-in-loop-cell.ensures (subst (λ z. i < z) counted lt) c.index-number.ensures in
       all_next e f i count w o c.in_ok-push.field-0 c.loop-cell.self c.push.new.self lt read (c.loop-cell.invariant.reached e s h)
@@ -90,7 +90,7 @@ returns-clause-ends g c line e s h =
     let count = c.len-count.result in
     let counted : count ≡ length d.cells.items = search rules in
     let i = c.loop-cell.cell in
-    let o = pushed_all (setting_at e) (cells_from f 0 count) s m.left in
+    let o = pushed_all (setting_at e) (cells_from f 0 count) s in
     let over : count ≤ i = omega arith in
-    subst (λ j. IsDone e c.loop-cell.self (pushed_all (setting_at e) (cells_from f 0 j) s m.left)) (counted_cells e m s c.args.variable d h c.requires.framed there count c.index.ensures counted)
+    subst (λ j. Ends e (pushed_all (setting_at e) (cells_from f 0 j) s) m.left (Ok tt) c.loop-cell.self) (counted_cells e m s c.args.variable d h c.requires.framed there count c.index.ensures counted)
     (all_end e f i count o tt c.loop-cell.self over (c.loop-cell.invariant.reached e s h))

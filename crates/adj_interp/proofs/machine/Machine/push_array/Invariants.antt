@@ -11,6 +11,6 @@ invariant-loop-cell g l = record {
   room : l.self.tape.room ≡ l.initial.self.tape.room;
   frame : l.self.frame ≡ l.initial.self.frame;
   reached : (e : Entry g.N.Number.numbers) (s : Scene g.row.N.Denot) → Holds e l.initial.self s →
-      Reaches e (pushed_all (setting_at e) (cells_from (s.store (var_at l.initial.self.frame.names.now l.variable)) 0 l.count) s l.initial.self.left)
+      Reaches e (pushed_all (setting_at e) (cells_from (s.store (var_at l.initial.self.frame.names.now l.variable)) 0 l.count) s) l.initial.self.left
       (pushed_all (setting_at e) (cells_from (s.store (var_at l.initial.self.frame.names.now l.variable)) l.cell (l.count - l.cell))) l.self;
 }

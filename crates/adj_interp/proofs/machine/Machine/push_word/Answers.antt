@@ -1,11 +1,11 @@
 use Rattle.std.proofs.Common.{rules, ◌≡◌, ◌<◌, ℕ, length, get_or, sym, ap, subst, ◌∙◌, arith}
 use Rattle.std.specs.Prelude.{Err}
 use Rattle.std.proofs.lemmas.List.{get_or_default}
-use Rattle.def_meaning.specs.Scene.{Scene, Outcome, stand, pushed}
+use Rattle.def_meaning.specs.Scene.{stand, pushed}
 use Rattle.adj_interp_frame.specs.Framed.{zero_in}
 use Rattle.adj_interp_frame.specs.declared.slot.Slot.{Slot}
 use Rattle.adj_interp_frame.specs.Prepared.{var_at}
-use Rattle.adj_interp.specs.Held.{setting_at, Ends}
+use Rattle.adj_interp.specs.Held.{setting_at, Runs, Ends}
 use Rattle.adj_interp.proofs.Driving.{ends_ok, ends_err}
 use Rattle.adj_interp.proofs.Serving.{held_cell}
 use Rattle.adj_interp.proofs.machine.Machine.push_word.Goals as goal
@@ -33,6 +33,6 @@ returns-clause-ends g c e s h =
     ∙ ap (λ (v : Slot _). get_or v.cells.items place (zero_in g.N.Number.numbers)) (sym c.index.ensures)
     ∙ get_or_default d.cells.items place (zero_in g.N.Number.numbers) c.index-number.result.now in_slot
     ∙ sym c.index-number.ensures in
-    let go : ℕ → Outcome (Scene g.row.N.Denot) = λ i. pushed (setting_at e) (s.store x i) s m.left in
-    ends_ok e _ c.args.line place (stand (setting_at e) s) go c.push.result c.push.new.self (c.in_ok-place.ensures.target e s h)
-    (subst (λ z. Ends e (pushed (setting_at e) z s m.left) c.push.result c.push.new.self) (sym read) (c.push.ensures.ends e s h))
+    let go : ℕ → Runs g.row.N.Denot = λ i. pushed (setting_at e) (s.store x i) s in
+    ends_ok e _ c.args.line place (stand (setting_at e) s) go m.left c.push.result c.push.new.self (c.in_ok-place.ensures.target e s h)
+    (subst (λ z. Ends e (pushed (setting_at e) z s) m.left c.push.result c.push.new.self) (sym read) (c.push.ensures.ends e s h))
