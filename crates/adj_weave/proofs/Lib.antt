@@ -13,3 +13,4 @@ pub mod Units
 pub mod Program
 pub mod Headed
 pub mod Leaving
+pub mod Makings

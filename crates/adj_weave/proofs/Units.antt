@@ -1,5 +1,5 @@
 -- The units that are made of a unit are put together.
-use Rattle.std.proofs.Common.{◌≡◌, ℕ, Bool, true, false, List, [], ◌∷◌, ◌++◌, map, refl, sym, ap, ◌∙◌}
+use Rattle.std.proofs.Common.{◌≡◌, ℕ, Bool, true, false, List, [], ◌∷◌, ◌++◌, refl, sym, ap, ◌∙◌}
 use Rattle.std.specs.Prelude.{◌==◌, ◌||◌, Option, Some}
 use Rattle.adj_tree.specs.Code.{Var, plain, shadow, helper, Code, Procedure, var_eq}
 use Rattle.def_meaning.specs.Apart.{has_name}
@@ -9,9 +9,7 @@ use Rattle.def_names.specs.Fault.{run_rules}
 use Rattle.def_names.specs.NameFaults.{is_rank_for}
 use Rattle.def_names.specs.Variables.{variables, rank}
 use Rattle.def_names.specs.Numbers.{Vars}
-use Rattle.def_sweep.specs.Callees.{nothing}
-use Rattle.def_sweep.specs.Marked.{names_in}
-use Rattle.def_sweep.specs.Naming.{adjoint_text, Named, unit_names, name_in, naming}
+use Rattle.def_sweep.specs.Naming.{adjoint_text, Named, name_in, naming}
 use Rattle.def_sweep.specs.Plan.{Plan, Schedules}
 use Rattle.def_sweep.specs.Marking.{ProgramMarks, first_statement, plan_in}
 use Rattle.def_sweep.specs.Program.{helpers_used_with, helpers_forth, schedules_in}
@@ -31,8 +29,8 @@ use Rattle.law_emitted.proofs.MakingFaults.{keeps, body_holds}
 use Rattle.adj_naming.specs.declared.names.Names.{Names}
 use Rattle.adj_naming.specs.Sets.{has_variable, AreDifferent}
 use Rattle.adj_naming.specs.Table.{table_of, named_by}
-use Rattle.adj_weave.specs.Made.{unit_under}
 use Rattle.adj_weave.specs.Shared.{HaveShadows}
+use Rattle.adj_weave_units.specs.Made.{unit_under}
 use Rattle.adj_weave_units.proofs.Renamed.{code_same}
 
 same_among : (v : Var) (vs : List Var) → has_variable v vs ≡ among v vs
@@ -53,14 +51,6 @@ forth_different sc p i c = different (helpers_forth sc p i c) (forth_apart sc p 
 -- variables that have a shadow are variables of the unit
 pub cleared_own : (m : ProgramMarks) (u : Procedure) (xs : List (List ℕ)) → HaveShadows m u xs → Cleared m u xs
 cleared_own m u xs h = each_name (λ x. (has_name x (variables u) ≡ true) × (m.shadowed u.name (plain x) ≡ true)) xs h
-
--- where no variable has a shadow, a unit has its own names and those of its helpers
-no_shadows : (xs : List (List ℕ)) → names_in nothing xs ≡ []
-no_shadows [] = refl
-no_shadows (x ∷ xs) = no_shadows xs
-
-pub unshadowed_names : (vs units : List (List ℕ)) (hs : List Var) → unit_names vs units hs ≡ table_for adjoint_text vs units nothing hs
-unshadowed_names vs units hs = ap (λ xs. unit_names vs units (map shadow xs ++ hs)) (sym (no_shadows vs))
 
 -- ---- each unit has what is asked of all
 

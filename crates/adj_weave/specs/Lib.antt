@@ -2,10 +2,10 @@
 pub mod Marked
 pub mod Named
 pub mod Searched
-pub mod Made
 pub mod Left
 pub mod Alike
 pub mod Orders
 pub mod Shared
+pub mod Making
 pub mod Woven
 pub mod Analyses

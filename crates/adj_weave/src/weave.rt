@@ -18,9 +18,9 @@ ghost use Rattle.adj_weave.specs.Woven.{IsTable, IsReady, head_of, only_if, pair
 use crate::called::known_callees;
 use crate::found::{Found, found_units};
 use crate::made::{MadeNames, all_made};
+use crate::making::{Clears, Half, Making};
 use crate::marks::Marked;
-use crate::pair::{back_unit, forth_unit};
-use crate::unit::{Part, Shared, adjoint_unit};
+use crate::unit::{Part, Shared, made_unit};
 use adj_naming::naming::not_free;
 use adj_sets::{NameSet, add_names};
 use adj_sweep::steps::MarkedLoops;
@@ -124,16 +124,22 @@ fn emitted_adjoint(alloc: Global, shared: &Shared, part: &Part, aim: &Aim) -> Re
     ensures unit { IfOk result (λ u. procedure_of u ≡ emitted_adjoint_with (reversed_for shared.now) (marks_for shared.now) (sources shared.now) (head_of aim.now) aim.now.vars.now aim.now.outvars.now (procedure_of part.now.unit.now)) }
 {
     if !aim.head.name.equals(&part.unit.name) {
-        let other = adjoint_unit(alloc, shared, part, &[], &[])?;
-        return Ok(other);
+        let clears = Clears {
+            at_turn: &[],
+            at_end: &[],
+        };
+        return made_unit(alloc, shared, part, &Making::Adjoint(clears));
     }
     let dummies = part.unit.dummies.as_slice();
     let turned = unmarked(alloc, dummies, aim.outvars)?;
     let at_turn = shadowed(alloc, &part.marking, turned.as_slice())?;
     let ended = unmarked(alloc, dummies, aim.vars)?;
     let at_end = shadowed(alloc, &part.marking, ended.as_slice())?;
-    let made = adjoint_unit(alloc, shared, part, at_turn.as_slice(), at_end.as_slice())?;
-    Ok(made)
+    let clears = Clears {
+        at_turn: at_turn.as_slice(),
+        at_end: at_end.as_slice(),
+    };
+    made_unit(alloc, shared, part, &Making::Adjoint(clears))
 }
 
 // The unit as it is, if it is carried, behind the others.
@@ -183,8 +189,8 @@ fn add_pair(
     ensures units { OnOk result (map procedure_of made.new.items ≡ map procedure_of made.old.items ++ pair_if paired (forth_unit (reversed_for shared.now) (marks_for shared.now) (sources shared.now) shared.now.names.now (procedure_of part.now.unit.now)) (back_unit (reversed_for shared.now) (marks_for shared.now) (sources shared.now) shared.now.names.now (procedure_of part.now.unit.now))) }
 {
     if paired {
-        made.push(forth_unit(alloc, shared, part)?)?;
-        made.push(back_unit(alloc, shared, part)?)?;
+        made.push(made_unit(alloc, shared, part, &Making::Pair(Half::Forth))?)?;
+        made.push(made_unit(alloc, shared, part, &Making::Pair(Half::Back))?)?;
     }
     Ok(())
 }
