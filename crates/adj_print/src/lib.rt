@@ -1,6 +1,6 @@
 //! The canonical text of a program.
 //!
-//! `text` writes a tree as `text_of` of def_text says (`specs/Text.antt` there): that is its contract.
+//! `text` writes a tree as `text_of` of def_text says (`specs/Text.antt` there): that is its contract. `into_text` lets the tree go meanwhile.
 //! The crate stands on the trees and on the definitions of texts. Characters of a statement are gathered first
 //! and then laid out in lines, so the cost is linear in the text.
 #![tactic(auto)]
@@ -13,4 +13,4 @@ mod runtime;
 mod statement;
 mod unit;
 
-pub use unit::text;
+pub use unit::{into_text, text};

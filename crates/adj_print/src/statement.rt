@@ -12,6 +12,7 @@ use crate::list::{push_count, push_name};
 use crate::runtime::{push_runtime_actuals, push_runtime_name};
 use adj_tree::{Act, Cond, Expr, Exprs, Mark, Memory, Name, Place, RunCall, Stmt, Stmts};
 use std::alloc::Global;
+use std::mem;
 
 fn push_assignment(
     alloc: Global,
@@ -177,4 +178,21 @@ pub fn push_stmts(alloc: Global, out: &mut Vec<u8>, list: &Stmts) -> Result<(), 
         current = &row.rest;
     }
     Ok(())
+}
+
+/// Adds the lines of statements in order, each of which is let go when its lines are there.
+pub fn push_each(alloc: Global, out: &mut Vec<u8>, list: Stmts) -> Result<(), Memory>
+    ensures lines { OnOk result (out.new.items ≡ out.old.items ++ code_text (code_of list)) }
+{
+    let mut current = list;
+    loop {
+        let rest = match &mut current {
+            Stmts::Empty => return Ok(()),
+            Stmts::More(row) => {
+                push_stmt(alloc, out, &row.first)?;
+                mem::replace(&mut row.rest, Stmts::Empty)
+            }
+        };
+        current = rest;
+    }
 }

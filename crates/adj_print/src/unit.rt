@@ -7,10 +7,11 @@ ghost use Rattle.adj_tree.specs.View.{declaration_of, procedure_of, procedures_o
 ghost use Rattle.def_text.specs.ReadsAs.{ReadsAs};
 ghost use Rattle.def_text.specs.Written.{IsWritten};
 ghost use Rattle.def_text.specs.Text.{statement, bracketed, declaration_text, implicit_text, procedure_text, text_of};
+ghost use Rattle.adj_print.specs.Opening.{opening_text};
 
 use crate::layout::push_statement;
 use crate::list::{push_extents, push_name, push_names};
-use crate::statement::push_stmts;
+use crate::statement::{push_each, push_stmts};
 use adj_tree::{Decl, Memory, Name, Program, Unit};
 use std::alloc::Global;
 
@@ -57,13 +58,29 @@ fn push_decls(alloc: Global, out: &mut Vec<u8>, decls: &[Decl]) -> Result<(), Me
     Ok(())
 }
 
-fn push_unit(alloc: Global, out: &mut Vec<u8>, unit: &Unit) -> Result<(), Memory>
-    ensures lines { OnOk result (out.new.items ≡ out.old.items ++ procedure_text (procedure_of unit.now)) }
+// The lines of a unit before its statements.
+fn push_opening(alloc: Global, out: &mut Vec<u8>, unit: &Unit) -> Result<(), Memory>
+    ensures lines { OnOk result (out.new.items ≡ out.old.items ++ opening_text (procedure_of unit.now)) }
 {
     push_heading(alloc, out, &unit.name, unit.dummies.as_slice())?;
     push_implicit(out, unit.none)?;
-    push_decls(alloc, out, unit.decls.as_slice())?;
+    push_decls(alloc, out, unit.decls.as_slice())
+}
+
+fn push_unit(alloc: Global, out: &mut Vec<u8>, unit: &Unit) -> Result<(), Memory>
+    ensures lines { OnOk result (out.new.items ≡ out.old.items ++ procedure_text (procedure_of unit.now)) }
+{
+    push_opening(alloc, out, unit)?;
     push_stmts(alloc, out, &unit.body)?;
+    push_statement(out, b"END")
+}
+
+// A unit, whose statements are let go as they are written.
+fn push_last(alloc: Global, out: &mut Vec<u8>, unit: Unit) -> Result<(), Memory>
+    ensures lines { OnOk result (out.new.items ≡ out.old.items ++ procedure_text (procedure_of unit)) }
+{
+    push_opening(alloc, out, &unit)?;
+    push_each(alloc, out, unit.body)?;
     push_statement(out, b"END")
 }
 
@@ -84,4 +101,15 @@ pub fn text(alloc: Global, p: &Program) -> Result<Vec<u8>, Memory>
 {
     let bytes = all_lines(alloc, p)?;
     Ok(bytes)
+}
+
+/// The text of a program that isn't needed any more: each statement of a unit is let go when its lines are there, so that the text takes the place of the tree.
+pub fn into_text(alloc: Global, p: Program) -> Result<Vec<u8>, Memory>
+    ensures text { IfOk result (λ v. v.items ≡ text_of (procedures_of p)) }
+{
+    let mut out = Vec::new(alloc);
+    for unit in p.units.into_vec() {
+        push_last(alloc, &mut out, unit)?;
+    }
+    Ok(out)
 }

@@ -16,7 +16,7 @@ ghost use Rattle.adj_tool.specs.Planned.{IsAdjointText, IsEmittedFor, IsKnownFor
 
 use crate::task::Wanted;
 use adj_plan::{CarriedFlow, Planned, carrying, plan, plan_text};
-use adj_print::text;
+use adj_print::into_text;
 use adj_sweep::steps::MarkedLoops;
 use adj_symbols::Checked;
 use adj_tangent::{Carried, tangent};
@@ -129,7 +129,7 @@ fn adjoint_text(
 {
     let program = emitted_for(alloc, &kernel, head, splits)?;
     drop(kernel);
-    let text = text(alloc, &program)?;
+    let text = into_text(alloc, program)?;
     Ok(text)
 }
 
@@ -176,7 +176,7 @@ fn tangent_text(alloc: Global, kernel: Checked, head: &Head) -> Result<Vec<u8>, 
 {
     let program = tangent_for(alloc, &kernel, head)?;
     drop(kernel);
-    let text = text(alloc, &program)?;
+    let text = into_text(alloc, program)?;
     Ok(text)
 }
 

@@ -1,0 +1,2 @@
+-- the definitions of the crate, a module a subject
+pub mod Opening
