@@ -6,7 +6,7 @@ use Rattle.std.proofs.lemmas.Bool.{cases_lt}
 use Rattle.std.proofs.lemmas.List.{get_or-map, get_or_default, length-map}
 use Rattle.std.proofs.lemmas.Nat.Bits.{bit_at-lt, bit_at_and}
 use Rattle.adj_reach.specs.Edges.{Edges}
-use Rattle.adj_reach_rows.specs.Bits.{bit}
+use Rattle.adj_tree.specs.Bits.{bit}
 use Rattle.adj_reach_rows.specs.Arcs.{bit_in, is_left}
 use Rattle.adj_reach_rows.specs.Chains.{last_of}
 use Rattle.adj_reach_rows.specs.Searches.{Grown, IsMarked, IsCarried, IsFollowed, IsLed, place_of}

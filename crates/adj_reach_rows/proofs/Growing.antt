@@ -1,7 +1,7 @@
 -- How searches go on, step by step.
 use Rattle.std.proofs.Common.{◌≡◌, ℕ, ◌⊎◌, inl, inr, refl, ◌∙◌, arith}
 use Rattle.std.specs.Prelude.{Result, Ok, Err, OnOk}
-use Rattle.adj_reach_rows.specs.Bits.{bit}
+use Rattle.adj_tree.specs.Bits.{bit}
 use Rattle.adj_reach_rows.specs.Searches.{Fits, Grown}
 use Rattle.adj_reach_rows.specs.declared.search.Search.{Search}
 

@@ -9,7 +9,7 @@ use Rattle.std.proofs.lemmas.List.{get_or-set_same, get_or-set_other, length_pus
 use Rattle.std.proofs.lemmas.List.Sums.{sum_by-set}
 use Rattle.std.proofs.lemmas.List.Elements.{Contains-append_left, Contains-push, All-push}
 use Rattle.adj_reach.specs.Edges.{flag}
-use Rattle.adj_reach_rows.specs.Bits.{bit}
+use Rattle.adj_tree.specs.Bits.{bit}
 use Rattle.adj_reach_rows.specs.Searches.{Fits, Grown, IsAwake, IsMarked, left_in}
 use Rattle.adj_reach_rows.specs.declared.search.Search.{Search}
 use Rattle.adj_reach_rows.proofs.Words.{or_keeps, or_has, or_only, lacking, lacks, lacking_only, joined_more}

@@ -11,7 +11,7 @@ use Rattle.std.proofs.Math.Nat.{mod-lt}
 use Rattle.adj_reach.specs.Edges.{Edges, flag}
 use Rattle.adj_reach.specs.Reached.{begins, leads}
 use Rattle.adj_reach.proofs.Reaching.{reached_least}
-use Rattle.adj_reach_rows.specs.Bits.{bit}
+use Rattle.adj_tree.specs.Bits.{bit}
 use Rattle.adj_reach_rows.specs.Arcs.{Leads, ReachedByRows}
 use Rattle.adj_reach_rows.specs.Searches.{Fits, IsNew, IsAwake, Grown, Took, IsFollowed, IsLed, left_in, place_of}
 use Rattle.adj_reach_rows.specs.declared.arc.Arc.{Arc}
@@ -326,10 +326,10 @@ module _ (width : ℕ) (rows : Rows) (arcs : List Arc) (edges : Edges) (start : 
 
   -- ---- the flags
 
-  pub finished : {E : Type 0} (count : ℕ) (s : Search) (seen : List ℕ) (r : Result (List Bool) E) → Searches count s → s.waiting.items ≡ [] → seen ≡ s.seen.items → IfOk r (λ f. length f ≡ count * width) →
+  pub finished : {E : Type 0} (count : ℕ) (s : Search) (seen : List ℕ) (r : Result (List Bool) E) → Searches count s → s.waiting.items ≡ [] → seen ≡ s.seen.items → IfOk r (λ f. (x : ℕ) → count * width ≤ x → flag f x ≡ false) →
       IfOk r (λ f. (x : ℕ) → x < count * width → flag f x ≡ (bit seen (place_of width rows.words x) == 1)) → IfOk r (λ f. (x : ℕ) → IsTrue (flag f x) ↔ ReachedByRows width rows arcs edges start x)
-  finished count s seen (Err e) h w same n fs = tt
-  finished count s seen (Ok f) h w same n fs = λ x. (to x, from x)
+  finished count s seen (Err e) h w same past fs = tt
+  finished count s seen (Ok f) h w same past fs = λ x. (to x, from x)
     where
       to : (x : ℕ) → flag f x ≡ true → Goes x
       to x t = go (cases_lt x (count * width))
@@ -338,7 +338,7 @@ module _ (width : ℕ) (rows : Rows) (arcs : List Arc) (edges : Edges) (start : 
           go (inl l) =
               let q : (bit seen (at x) == 1) ≡ true = sym (fs x l) ∙ t in
               h.sound x (sym (ap (λ ws. bit ws (at x)) same) ∙ eqb-true (bit seen (at x)) 1 q)
-          go (inr l) = absurd (let e : flag f x ≡ false = get_or_past f x false (omega (arith, l, n)) in cc)
+          go (inr l) = absurd (let e : flag f x ≡ false = past x l in cc)
 
       from : (x : ℕ) → Goes x → flag f x ≡ true
       from x r =

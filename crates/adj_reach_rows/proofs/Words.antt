@@ -3,23 +3,11 @@ use Rattle.std.proofs.Common.{◌≡◌, ℕ, ◌+◌, ◌-◌, ◌*◌, ◌/◌
 use Rattle.std.specs.Prelude.{◌==◌, if◌then◌else◌}
 use Rattle.std.specs.Int.{bit_at, bit_not, w64}
 use Rattle.std.proofs.lemmas.Nat.{one_shl, pow_below}
-use Rattle.std.proofs.lemmas.Nat.Bits.{bit_at-lt, bit_at-zero, bit_at_and, bit_at_or, bit_at_not, bit_at-pow_same, bit_at-pow_other, bit_at_ones, bit_at_set_same, bit_at_set_other, bit_at_above, same_from_bits}
+use Rattle.std.proofs.lemmas.Nat.Bits.{bit_at-lt, bit_at-zero, bit_at_and, bit_at_or, bit_at_not, bit_at-pow_same, bit_at-pow_other, bit_at_ones, bit_at_above, same_from_bits}
 use Rattle.std.specs.Int.Bits.{or_add_and}
 use Rattle.std.proofs.lemmas.Bool.{cases_lt, cases_eq}
-use Rattle.std.proofs.lemmas.List.{get_or-set_same, get_or-set_other, get_or_past}
-use Rattle.adj_reach_rows.specs.Bits.{bit}
-
--- ---- one word is written
-
-pub bit_set_same : (ws : List ℕ) (i v n : ℕ) → i < length ws → n / 64 ≡ i → bit (set ws i v) n ≡ bit_at v (n % 64)
-bit_set_same ws i v n l e = ap (λ z. bit_at z (n % 64)) (ap (λ k. get_or (set ws i v) k 0) e ∙ get_or-set_same ws i v 0 l)
-
-pub bit_set_other : (ws : List ℕ) (i v n : ℕ) → (n / 64 ≡ i → ⊥) → bit (set ws i v) n ≡ bit ws n
-bit_set_other ws i v n f = ap (λ z. bit_at z (n % 64)) (get_or-set_other ws i (n / 64) v 0 f)
-
--- past the end there is no bit
-pub bit_past : (ws : List ℕ) (n : ℕ) → length ws ≤ n / 64 → bit ws n ≡ 0
-bit_past ws n l = ap (λ z. bit_at z (n % 64)) (get_or_past ws (n / 64) 0 l) ∙ bit_at-zero (n % 64)
+use Rattle.adj_tree.specs.Bits.{bit}
+use Rattle.adj_tree.proofs.BitWords.{bit_set_same, bit_set_other, bit_past, bit_put}
 
 -- so a bit that is set is within
 pub bit_within : (ws : List ℕ) (n : ℕ) → bit ws n ≡ 1 → n / 64 < length ws
@@ -29,32 +17,15 @@ bit_within ws n h = go (cases_lt (n / 64) (length ws))
     go (inl l) = l
     go (inr l) = let e : bit ws n ≡ 0 = bit_past ws n l in absurd (omega (arith, h))
 
--- ---- the bit of a column is set
-
-pub bit_put : (ws : List ℕ) (first c n : ℕ) → first + c / 64 < length ws →
+-- the bit of a column is set
+pub bit_put_in : (ws : List ℕ) (first c n : ℕ) → first + c / 64 < length ws →
     bit (set ws (first + c / 64) (bit_or (get_or ws (first + c / 64) 0) (1 * 2 ^ (c % 64) % 2 ^ 64))) n ≡ (if n == first * 64 + c then 1 else bit ws n)
-bit_put ws first c n l = go (n == first * 64 + c) refl
-  where
-    v : ℕ
-    v = bit_or (get_or ws (first + c / 64) 0) (1 * 2 ^ (c % 64) % 2 ^ 64)
-
-    go : (b : Bool) → (n == first * 64 + c) ≡ b → bit (set ws (first + c / 64) v) n ≡ (if b then 1 else bit ws n)
-    go true e =
-        let q : n ≡ first * 64 + c = eqb-true n (first * 64 + c) e in
-        let p : n / 64 ≡ first + c / 64 = omega (arith, q) in
-        let r : n % 64 ≡ c % 64 = omega (arith, q) in
-        let k : c % 64 < 64 = omega arith in
-        bit_set_same ws (first + c / 64) v n l p ∙ ap (bit_at v) r ∙ bit_at_set_same w64 (get_or ws (first + c / 64) 0) (c % 64) k
-    go false e = by (cases_eq (n / 64) (first + c / 64))
-      where
-        k : c % 64 < 64
-        k = omega arith
-
-        by : (n / 64 ≡ first + c / 64) ⊎ (n / 64 ≡ first + c / 64 → ⊥) → bit (set ws (first + c / 64) v) n ≡ bit ws n
-        by (inl p) =
-            let f : n % 64 ≡ c % 64 → ⊥ = λ r. true≢false (sym (eq-eqb n (first * 64 + c) (omega (arith, p, r))) ∙ e) in
-            bit_set_same ws (first + c / 64) v n l p ∙ bit_at_set_other w64 (get_or ws (first + c / 64) 0) (c % 64) k (n % 64) f ∙ ap (λ z. bit_at (get_or ws z 0) (n % 64)) (sym p)
-        by (inr p) = bit_set_other ws (first + c / 64) v n p
+bit_put_in ws first c n l =
+    let k = first * 64 + c in
+    let p : k / 64 ≡ first + c / 64 = omega arith in
+    let r : k % 64 ≡ c % 64 = omega arith in
+    let m : k / 64 < length ws = omega (arith, l) in
+    sym (λ j. bit (set ws (p j) (bit_or (get_or ws (p j) 0) (1 * 2 ^ (r j) % 2 ^ 64))) n) ∙ bit_put ws k n m
 
 -- ---- the words of what isn't left
 

@@ -2,7 +2,8 @@
 use Rattle.std.specs.Prelude.{◌≡◌, ℕ, ◌+◌, ◌*◌, ◌/◌, ◌%◌, ◌<◌, ◌≤◌, ◌^◌, ◌-◌, ◌⊎◌, List, [], length, All, Contains, true, false, get_or, slice_set, replicate, sum_by}
 use Rattle.std.specs.Int.{bit_at}
 use Rattle.adj_reach.specs.Edges.{Edges, flag}
-use Rattle.adj_reach_rows.specs.Bits.{bit, column}
+use Rattle.adj_tree.specs.Bits.{bit}
+use Rattle.adj_reach_rows.specs.Bits.{column}
 use Rattle.adj_reach_rows.specs.Arcs.{bit_in, is_left}
 use Rattle.adj_reach_rows.specs.declared.arc.Arc.{Arc}
 use Rattle.adj_reach_rows.specs.declared.bits.Rows.{Rows}

@@ -1,7 +1,7 @@
 //! Rows of bits.
 
 ghost use Rattle.std.specs.Prelude.{◌≡◌, ◌+◌, ◌*◌, ◌/◌, ◌<◌, ◌≤◌, ℕ, IfOk, vec_len, if◌then◌else◌, ◌==◌, get_or, length};
-ghost use Rattle.adj_reach_rows.specs.Bits.{bit};
+ghost use Rattle.adj_tree.specs.Bits.{bit};
 
 use adj_tree::Memory;
 use std::alloc::Global;

@@ -1,12 +1,12 @@
 //! The flags of nodes.
 
-ghost use Rattle.std.specs.Prelude.{◌≡◌, ◌+◌, ◌*◌, ◌/◌, ◌<◌, ◌≤◌, ◌==◌, ◌⊎◌, ℕ, IfOk, false, length};
+ghost use Rattle.std.specs.Prelude.{◌≡◌, ◌+◌, ◌*◌, ◌/◌, ◌<◌, ◌≤◌, ◌==◌, ◌⊎◌, ◌||◌, ◌^◌, ℕ, IfOk, false, length};
 ghost use Rattle.std.specs.Int.{bit_at};
 ghost use Rattle.adj_reach.specs.Edges.{flag};
-ghost use Rattle.adj_reach_rows.specs.Bits.{bit};
+ghost use Rattle.adj_tree.specs.Bits.{bit};
 ghost use Rattle.adj_reach_rows.specs.Searches.{place_of};
 
-use adj_tree::{Flags, Memory};
+use adj_tree::{BitFlags, Memory};
 use std::alloc::Global;
 
 // Whether a word has a bit.
@@ -17,23 +17,38 @@ fn has(word: u64, column: usize) -> bool
     word >> column & 1 == 1
 }
 
-// Sets the flags of the first columns of a word.
-fn set_word(flags: &mut [bool], at: usize, word: u64, columns: usize)
+// Sets a flag, if it is to be set.
+fn set_if(flags: &mut BitFlags, place: usize, is_set: bool)
+    requires within { place < length flags.old }
+    ensures count { length flags.new ≡ length flags.old }
+    ensures set { flag flags.new place ≡ (is_set || flag flags.old place) }
+    ensures others { (x : ℕ) → (x < place) ⊎ (place < x) → flag flags.new x ≡ flag flags.old x }
+{
+    if is_set {
+        flags.set(place);
+    }
+}
+
+// Sets the flags of the first columns of a word. None is set from there on.
+fn set_word(flags: &mut BitFlags, at: usize, word: u64, columns: usize)
     requires few { columns ≤ 64 }
     requires within { at + columns ≤ length flags.old }
+    requires room { at + columns < 2 ^ 64 }
+    requires fresh { (x : ℕ) → at ≤ x → flag flags.old x ≡ false }
     ensures count { length flags.new ≡ length flags.old }
     ensures others { (x : ℕ) → (x < at) ⊎ (at + columns ≤ x) → flag flags.new x ≡ flag flags.old x }
     ensures word { (j : ℕ) → j < columns → flag flags.new (at + j) ≡ (bit_at word j == 1) }
 {
     for column in 0..columns {
-        flags[at + column] = has(word, column);
+        set_if(flags, at + column, has(word, column));
     }
 }
 
 // Sets the flags of a row, whose words begin at one of some. None is set from there on.
-fn set_row(flags: &mut [bool], at: usize, words: &[u64], first: usize, width: usize)
+fn set_row(flags: &mut BitFlags, at: usize, words: &[u64], first: usize, width: usize)
     requires row { first + width / 64 < length words.now }
     requires within { at + width ≤ length flags.old }
+    requires room { at + width < 2 ^ 64 }
     requires fresh { (x : ℕ) → at ≤ x → flag flags.old x ≡ false }
     ensures count { length flags.new ≡ length flags.old }
     ensures before { (x : ℕ) → x < at → flag flags.new x ≡ flag flags.old x }
@@ -56,17 +71,17 @@ pub(crate) fn flags(
     words: usize,
     width: usize,
     bits: &[u64],
-) -> Result<Flags, Memory>
+) -> Result<BitFlags, Memory>
     requires some { 0 < width }
     requires wide { width < 64 * words }
     requires size { length bits.now ≡ rows * words }
-    ensures count { IfOk result (λ f. length f ≡ rows * width) }
     ensures flags { IfOk result (λ f. (x : ℕ) → x < rows * width → flag f x ≡ (bit bits.now (place_of width words x) == 1)) }
+    ensures behind { IfOk result (λ f. (x : ℕ) → rows * width ≤ x → flag f x ≡ false) }
 {
     let all = rows.checked_mul(width).ok_or(Memory)?;
-    let mut flags = vec![in alloc; false; all]?;
+    let mut flags = BitFlags::new(alloc, all)?;
     for row in 0..rows {
-        set_row(flags.as_mut_slice(), row * width, bits, row * words, width);
+        set_row(&mut flags, row * width, bits, row * words, width);
     }
-    Ok(Flags::new(flags))
+    Ok(flags)
 }

@@ -10,7 +10,7 @@ use crate::chains::{arcs_by_row, edges_by_row};
 use crate::flags::flags;
 use crate::search::Search;
 use crate::size::rows as rows_for;
-use adj_tree::{Flags, Memory};
+use adj_tree::{BitFlags, Memory};
 use std::alloc::Global;
 
 /// Which nodes are reached from `start` along edges, and along arcs that carry the variables of `rows`; the node of variable `j` at point `p` is
@@ -22,7 +22,7 @@ pub fn reached_by_rows(
     arcs: &[Arc],
     edges: &[(usize, usize)],
     start: &[usize],
-) -> Result<Flags, Memory>
+) -> Result<BitFlags, Memory>
     requires some { 0 < width }
     requires wide { width < 64 * rows.now.words }
     ensures exact { IfOk result (λ flags. (x : ℕ) → IsTrue (flag flags x) ↔ ReachedByRows width rows.now arcs.now edges.now start.now x) }

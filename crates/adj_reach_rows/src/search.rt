@@ -4,7 +4,7 @@ ghost use Rattle.std.specs.Prelude.{◌≡◌, ◌+◌, ◌*◌, ◌/◌, ◌%�
 ghost use Rattle.std.specs.Int.{bit_at};
 ghost use Rattle.adj_reach.specs.Edges.{flag};
 ghost use Rattle.adj_reach_rows.specs.Chains.{AreChains};
-ghost use Rattle.adj_reach_rows.specs.Bits.{bit};
+ghost use Rattle.adj_tree.specs.Bits.{bit};
 ghost use Rattle.adj_reach_rows.specs.Searches.{Fits, Grown, Took, IsMarked, IsCarried, IsFollowed, IsLed, IsNew, place_of};
 
 use crate::arc::{Arc, others};

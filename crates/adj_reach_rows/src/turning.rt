@@ -7,7 +7,7 @@ ghost use Rattle.adj_reach_rows.specs.Against.{ReachedBackByRows, turned_arc, tu
 use crate::arc::Arc;
 use crate::bits::Rows;
 use crate::reaching::reached_by_rows;
-use adj_tree::{Flags, Memory};
+use adj_tree::{BitFlags, Memory};
 use std::alloc::Global;
 
 // Arcs turned round.
@@ -46,7 +46,7 @@ pub fn reached_back_by_rows(
     arcs: &[Arc],
     edges: &[(usize, usize)],
     start: &[usize],
-) -> Result<Flags, Memory>
+) -> Result<BitFlags, Memory>
     requires some { 0 < width }
     requires wide { width < 64 * rows.now.words }
     ensures exact { IfOk result (λ flags. (x : ℕ) → IsTrue (flag flags x) ↔ ReachedBackByRows width rows.now arcs.now edges.now start.now x) }

@@ -7,3 +7,4 @@ pub mod Listed
 pub mod Codes
 pub mod Common
 pub mod CommonView
+pub mod Bits

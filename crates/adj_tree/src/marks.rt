@@ -1,5 +1,6 @@
 //! The head of a differentiation, and what the analyses mark.
 
+use crate::bits::BitFlags;
 use crate::list::Flags;
 
 /// The unit that is differentiated, and for each of its dummies whether it is independent and whether it is dependent.
@@ -13,8 +14,8 @@ pub struct Head {
 /// Varied and useful variables by node, adjointed statements by statement, shadowed variables by unit and variable.
 #[derive(Drop)]
 pub struct Activity {
-    pub varied: Flags,
-    pub useful: Flags,
+    pub varied: BitFlags,
+    pub useful: BitFlags,
     pub adjointed: Flags,
     pub shadowed: Flags,
 }
@@ -29,7 +30,7 @@ pub struct Kept {
 /// The values that are saved, by statement and variable.
 #[derive(Drop)]
 pub struct Saved {
-    pub saved: Flags,
+    pub saved: BitFlags,
 }
 
 /// All marks of a program.

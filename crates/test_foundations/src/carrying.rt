@@ -3,9 +3,18 @@
 ghost use Rattle.std.specs.Prelude.{◌≡◌, IfOk};
 
 use adj_reach_rows::{Arc, Rows, reached_by_rows};
-use adj_tree::Memory;
+use adj_tree::{BitFlags, Memory};
 use std::alloc::Global;
 use std::test::Fail;
+
+// The first flags, so many.
+fn shown(alloc: Global, flags: &BitFlags, count: usize) -> Result<Vec<bool>, Memory> {
+    let mut all = Vec::new(alloc);
+    for node in 0..count {
+        all.push(flags.at(node))?;
+    }
+    Ok(all)
+}
 
 // Three points of two variables and a node behind them. Both variables are in the first row. Variable 1 stays on the way from point 0 to 1, where variable 0 is left
 // behind; from 1 to 2 both stay, and back from 2 to 1; and edges lead from variable 1 at point 0 to variable 0 at point 1, and from that to the node behind.
@@ -47,7 +56,7 @@ fn variables_are_carried_but_for_one_or_led_on_by_edges(rt: HostRuntime) -> Resu
         [0].as_slice(),
     )?;
     assert_eq!(rt;
-        from_first.as_slice(),
+        shown(rt.alloc(), &from_first, 8)?.as_slice(),
         [true, false, false, false, false, false, false, false].as_slice()
     );
     let from_second = reached_by_rows(
@@ -59,7 +68,7 @@ fn variables_are_carried_but_for_one_or_led_on_by_edges(rt: HostRuntime) -> Resu
         [1].as_slice(),
     )?;
     assert_eq!(rt;
-        from_second.as_slice(),
+        shown(rt.alloc(), &from_second, 8)?.as_slice(),
         [false, true, true, true, true, true, true, false].as_slice()
     );
     Ok(())
@@ -98,10 +107,11 @@ fn many_variables_over_many_points_are_carried_at_once(rt: HostRuntime) -> Resul
         &[],
         start.as_slice(),
     )?;
-    let set = flags.as_slice().iter().filter(|flag| **flag).count();
+    let all = shown(rt.alloc(), &flags, 4_000_200)?;
+    let set = all.as_slice().iter().filter(|flag| **flag).count();
     assert_eq!(rt; set, 2 * 20_001 + 1);
-    assert_eq!(rt; flags.as_slice().get(0), Some(&true));
-    assert_eq!(rt; flags.as_slice().get(7), Some(&false));
-    assert_eq!(rt; flags.as_slice().get(199), Some(&true));
+    assert_eq!(rt; flags.at(0), true);
+    assert_eq!(rt; flags.at(7), false);
+    assert_eq!(rt; flags.at(199), true);
     Ok(())
 }

@@ -1,9 +1,8 @@
-use Rattle.std.proofs.Common.{◌≡◌, ℕ, ◌+◌, ◌-◌, ◌*◌, ◌<◌, ◌≤◌, ◌⊎◌, inl, inr, Bool, false, List, length, sym, ap, ◌∙◌, subst, arith}
+use Rattle.std.proofs.Common.{◌≡◌, ℕ, ◌+◌, ◌-◌, ◌*◌, ◌<◌, ◌≤◌, ◌⊎◌, inl, inr, Bool, List, sym, ap, ◌∙◌, subst, arith}
 use Rattle.std.specs.Prelude.{◌==◌}
 use Rattle.std.proofs.lemmas.Bool.{cases_lt}
-use Rattle.std.proofs.lemmas.List.{with_items_is}
 use Rattle.adj_reach.specs.Edges.{flag}
-use Rattle.adj_reach_rows.specs.Bits.{bit}
+use Rattle.adj_tree.specs.Bits.{bit}
 use Rattle.adj_reach_rows.specs.Searches.{place_of}
 use Rattle.adj_reach_rows.proofs.Columns.{node_place}
 use Rattle.adj_reach_rows.proofs.flags.flags.Goals as goal
@@ -24,16 +23,8 @@ pub loop-row-preserved : goal.loop-row-preserved
 loop-row-preserved c =
     let i = c.loop-row.invariant in
     let e = c.set_row.ensures in
-    let row = c.loop-row.row in
-    let width = c.args.width in
-    let value = c.as_mut_slice.ensures.value in
-    let old = c.loop-row.flags.items in
-    let new = c.set_row.new.flags in
-    let size : length c.set_row.new.flags ≡ length c.loop-row.flags.items = e.count ∙ ap length value in
-    let is = with_items_is c.loop-row.flags new (size ∙ sym c.loop-row.flags.ok.0) in
-    let same : (x : ℕ) → x < c.loop-row.row * c.args.width → flag c.set_row.new.flags x ≡ flag c.loop-row.flags.items x = λ x l. e.before x l ∙ ap (λ fs. flag fs x) value in
     record {
-      count = ap length is ∙ size ∙ i.count;
-      flags = subst (λ fs. (x : ℕ) → x < (row + 1) * width → flag fs x ≡ (bit c.args.bits.now (place_of width c.args.words x) == 1)) (sym is) (flags_more width c.args.words row c.args.bits.now old new c.requires.some c.requires.wide i.flags same e.row);
-      behind = subst (λ fs. (x : ℕ) → (row + 1) * width ≤ x → flag fs x ≡ false) (sym is) (λ x l. e.behind x (omega (arith, l)));
+      count = subst (λ n. c.args.rows * c.args.width ≤ n) (sym e.count) i.count;
+      flags = flags_more c.args.width c.args.words c.loop-row.row c.args.bits.now c.loop-row.flags c.set_row.new.flags c.requires.some c.requires.wide i.flags e.before e.row;
+      behind = λ x l. e.behind x (omega (arith, l));
     }

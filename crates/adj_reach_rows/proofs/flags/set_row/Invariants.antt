@@ -2,7 +2,7 @@
 use Rattle.std.proofs.Common.{◌≡◌, ℕ, ◌+◌, ◌*◌, ◌<◌, ◌≤◌, min, false, length}
 use Rattle.std.specs.Prelude.{◌==◌}
 use Rattle.adj_reach.specs.Edges.{flag}
-use Rattle.adj_reach_rows.specs.Bits.{bit}
+use Rattle.adj_tree.specs.Bits.{bit}
 use Rattle.adj_reach_rows.proofs.flags.set_row.Given as goal
 
 abbrev pub invariant-loop-place : goal.invariant-loop-place

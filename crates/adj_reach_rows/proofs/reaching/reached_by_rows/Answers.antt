@@ -190,5 +190,5 @@ returns c =
     let h = c.loop-row.invariant.searching in
     record {
       exact = finished c.args.width c.args.rows.now c.args.arcs.now c.args.edges.now c.args.start.now c.requires.some c.requires.wide c.in_ok-count.count c.loop-row.search c.as_slice-seen.result.now c.flags.result h c.in_default.ensures.taken
-          (c.as_slice-seen.ensures.value ∙ c.in_default.ensures.seen) c.flags.ensures.count c.flags.ensures.flags;
+          (c.as_slice-seen.ensures.value ∙ c.in_default.ensures.seen) c.flags.ensures.behind c.flags.ensures.flags;
     }
