@@ -25,7 +25,7 @@ use Rattle.adj_reach.specs.Edges.{Edges, ReachedFrom, ReachedBack, flag}
 use Rattle.adj_flow.specs.Nodes.{IsWide}
 use Rattle.adj_activity.specs.Edges.{flow_edges, entry_nodes, end_nodes, shadow_edges, shadow_nodes, adjoint_edges, adjoint_nodes}
 use Rattle.adj_flow.specs.Told.{told, told_of}
-use Rattle.adj_flow.specs.ActivityTold.{activity_told}
+use Rattle.adj_activity.specs.Searched.{activity_searched}
 use Rattle.adj_flow.specs.NodeView.{found_at}
 use Rattle.adj_activity.specs.View.{flow_listed, shadows_listed, adjoints_listed}
 use Rattle.adj_flow.specs.Scoped.{scope_by, HoldVariables}
@@ -88,7 +88,7 @@ module _ (k : Problem) (vss : List (List (List ℕ))) (numbers : List (List ℕ 
       (b : (m : ℕ) → IsTrue (flag f.useful.now m) ↔ ReachedBack (flow_listed rs numbers taking w) (point_nodes w r r.part.end k.outvars) m)
       (c : (m : ℕ) → IsTrue (flag f.shadowed.now m) ↔ ReachedFrom (shadows_listed f.varied rs numbers taking w) ((point_nodes w r r.part.number k.vars ++ point_nodes w r r.part.number k.outvars) ++ all_active f.varied.now (Some f.useful) rs taking w) m)
       (d : (m : ℕ) → IsTrue (flag adjointed m) ↔ ReachedFrom (adjoints_listed rs numbers taking w) (all_outright f rs taking w) m) where
-    told_at_head : (g : Part) → slice_get (parts k.units) k.head ≡ Some g → r ≡ row_in vss g → IsActivity k (activity_told f.varied.now f.useful.now f.shadowed.now adjointed o w)
+    told_at_head : (g : Part) → slice_get (parts k.units) k.head ≡ Some g → r ≡ row_in vss g → IsActivity k (activity_searched f.varied.now f.useful.now f.shadowed.now adjointed o w)
     told_at_head g is q =
         let find = λ (x : List ℕ). found_at (rows vss k.units) (value_of x numbers) in
         let flow : flow_listed rs numbers taking w ≡ flow_edges k o w = ap (λ z. flow_listed z numbers taking w) same ∙ all_flow k vss taking w find finds covers in
@@ -98,7 +98,7 @@ module _ (k : Problem) (vss : List (List (List ℕ))) (numbers : List (List ℕ 
         let end : point_nodes w r r.part.end k.outvars ≡ end_nodes k o w = ap (λ z. point_nodes w z z.part.end k.outvars) q ∙ end_same k vss taking w covers g is in
         let lent : (point_nodes w r r.part.number k.vars ++ point_nodes w r r.part.number k.outvars) ++ all_active f.varied.now (Some f.useful) rs taking w ≡ shadow_nodes k o w (told f.varied.now o w) (told f.useful.now o w) =
         (λ i. (point_nodes w (q i) (q i).part.number k.vars ++ point_nodes w (q i) (q i).part.number k.outvars) ++ all_active f.varied.now (Some f.useful) (same i) taking w) ∙ shadows_same k vss taking w covers g is f.varied.now (Some f.useful) in
-        let made : all_outright f rs taking w ≡ adjoint_nodes (activity_told f.varied.now f.useful.now f.shadowed.now adjointed o w) o = ap (λ z. all_outright f z taking w) same ∙ outright_same k vss taking w covers f adjointed in
+        let made : all_outright f rs taking w ≡ adjoint_nodes (activity_searched f.varied.now f.useful.now f.shadowed.now adjointed o w) o = ap (λ z. all_outright f z taking w) same ∙ outright_same k vss taking w covers f adjointed in
         is_activity k o w f.varied.now f.useful.now f.shadowed.now adjointed covers wide
         (record {
           varied_by = moved f.varied.now _ _ _ _ flow entry a;
@@ -107,7 +107,7 @@ module _ (k : Problem) (vss : List (List (List ℕ))) (numbers : List (List ℕ 
           adjointed_by = moved adjointed _ _ _ _ adjoints made d;
         })
 
-    pub told_activity : k.head < length k.units → r ≡ get_or rs k.head r → IsActivity k (activity_told f.varied.now f.useful.now f.shadowed.now adjointed o w)
+    pub told_activity : k.head < length k.units → r ≡ get_or rs k.head r → IsActivity k (activity_searched f.varied.now f.useful.now f.shadowed.now adjointed o w)
     told_activity l e = let g = head_part l in told_at_head g.0 g.1 (head_row r g.0 g.1 e)
 
   -- what carries a tangent

@@ -20,7 +20,7 @@ use Rattle.adj_reach.specs.Edges.{flag}
 use Rattle.adj_flow.specs.Nodes.{node_in}
 use Rattle.adj_activity.specs.Edges.{entry_nodes, end_nodes, head_shadows, active_shadows, shadow_nodes, adjoint_number, adjoint_nodes}
 use Rattle.adj_flow.specs.Told.{told_in, told, told_of}
-use Rattle.adj_flow.specs.ActivityTold.{activity_told}
+use Rattle.adj_activity.specs.Searched.{activity_searched}
 use Rattle.adj_flow.specs.NodeView.{told_at}
 use Rattle.adj_flow.specs.Scoped.{scope_by}
 use Rattle.adj_activity.specs.Starts.{point_nodes, is_useful_in, active_nodes, all_active, row_activity, outright_at, outright_in, all_outright}
@@ -100,7 +100,7 @@ module _ (k : Problem) (vss : List (List (List ℕ))) (flags : List Bool) (w : �
 
   module _ (f : Found) (adjointed : List Bool) where
     abbrev a : Activity
-    a = activity_told f.varied.now f.useful.now f.shadowed.now adjointed o w
+    a = activity_searched f.varied.now f.useful.now f.shadowed.now adjointed o w
 
     at_same : (q : Part) (s : Standing) → TakesPart k q → Contains (statements_of q) s → (b : Act) → adjoint_starts_at (row_activity f w (row_in vss q)) q.number s.number b ≡ adjoint_starts_at a q.number s.number b
     at_same q s t c (assign x subs e) =

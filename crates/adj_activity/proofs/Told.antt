@@ -20,7 +20,7 @@ use Rattle.def_flow.proofs.OwnPoints.{entry_point}
 use Rattle.adj_flow.specs.Nodes.{IsWide, IsNumbered}
 use Rattle.adj_activity.specs.Laws.{AreFlags, AreCarriedFlags}
 use Rattle.adj_flow.specs.Told.{unit_at, unit_of, told, told_of}
-use Rattle.adj_flow.specs.ActivityTold.{activity_told}
+use Rattle.adj_activity.specs.Searched.{activity_searched}
 use Rattle.adj_activity.proofs.FlowNumbered.{varied_listed, useful_listed}
 use Rattle.adj_activity.proofs.ShadowNumbered.{shadow_listed}
 use Rattle.adj_activity.proofs.AdjointNumbered.{adjoint_listed}
@@ -41,7 +41,7 @@ module _ (k : Problem) (o : Scope) (w : ℕ) (varied useful shadowed adjointed :
   is_shadowed = told_exact k o w IsNumbered (unit_of o.parts) (number_found k o y) (number_finds k o y) (shadow_listed k o y w wide (told varied o w) (told useful o w) within) shadowed f.shadowed_by
 
   abbrev a : Activity
-  a = activity_told varied useful shadowed adjointed o w
+  a = activity_searched varied useful shadowed adjointed o w
 
   is_adjointed : (i : ℕ) → a.adjointed i ≡ true ↔ Adjointed k a (statement i)
   is_adjointed i =
@@ -49,7 +49,7 @@ module _ (k : Problem) (o : Scope) (w : ℕ) (varied useful shadowed adjointed :
       let x = f.adjointed_by (2 * i) in
       (λ h. e.1 (x.0 h), λ r. x.1 (e.0 r))
 
-  pub is_activity : IsActivity k (activity_told varied useful shadowed adjointed o w)
+  pub is_activity : IsActivity k (activity_searched varied useful shadowed adjointed o w)
   is_activity = record { varied = is_varied; useful = is_useful; shadowed = is_shadowed; adjointed = is_adjointed }
 
 -- ---- what carries a tangent

@@ -12,7 +12,7 @@ use Rattle.adj_reach.specs.Edges.{ReachedFrom, ReachedBack, flag}
 use Rattle.adj_flow.specs.Nodes.{IsWide}
 use Rattle.adj_activity.specs.Edges.{flow_edges, entry_nodes, end_nodes, shadow_edges, shadow_nodes, adjoint_edges, adjoint_nodes}
 use Rattle.adj_flow.specs.Told.{told, told_of}
-use Rattle.adj_flow.specs.ActivityTold.{activity_told}
+use Rattle.adj_activity.specs.Searched.{activity_searched}
 use Rattle.adj_flow.specs.Scoped.{HoldVariables}
 
 -- the flags are those of what the edges of each rule reach from where it begins
@@ -20,12 +20,12 @@ pub record AreFlags (k : Problem) (o : Scope) (w : ℕ) (varied useful shadowed 
   pub varied_by : (m : ℕ) → IsTrue (flag varied m) ↔ ReachedFrom (flow_edges k o w) (entry_nodes k o w) m
   pub useful_by : (m : ℕ) → IsTrue (flag useful m) ↔ ReachedBack (flow_edges k o w) (end_nodes k o w) m
   pub shadowed_by : (m : ℕ) → IsTrue (flag shadowed m) ↔ ReachedFrom (shadow_edges k o w (told varied o w)) (shadow_nodes k o w (told varied o w) (told useful o w)) m
-  pub adjointed_by : (m : ℕ) → IsTrue (flag adjointed m) ↔ ReachedFrom (adjoint_edges k o) (adjoint_nodes (activity_told varied useful shadowed adjointed o w) o) m
+  pub adjointed_by : (m : ℕ) → IsTrue (flag adjointed m) ↔ ReachedFrom (adjoint_edges k o) (adjoint_nodes (activity_searched varied useful shadowed adjointed o w) o) m
 
 -- then what they tell is the activity
 abbrev pub ActivityIsTold : Type 0
 ActivityIsTold = (k : Problem) (o : Scope) (w : ℕ) (varied useful shadowed adjointed : List Bool) → Covers k o → IsWide k o w → AreFlags k o w varied useful shadowed adjointed →
-    IsActivity k (activity_told varied useful shadowed adjointed o w)
+    IsActivity k (activity_searched varied useful shadowed adjointed o w)
 
 -- the flags are those of what is varied, and of what has a shadow where everything is useful
 pub record AreCarriedFlags (k : Problem) (o : Scope) (w : ℕ) (varied carried : List Bool) : Type 0 where

@@ -4,4 +4,5 @@ pub mod View
 pub mod Arcs
 pub mod Starts
 pub mod Carried
+pub mod Searched
 pub mod Laws

@@ -1,6 +1,6 @@
 //! Which statements are adjointed by themselves.
 
-ghost use Rattle.std.specs.Prelude.{◌≡◌, ◌++◌, ◌∷◌, ◌&&◌, ◌||◌, [], not, IfOk, OnOk, map};
+ghost use Rattle.std.specs.Prelude.{◌≡◌, ◌++◌, ◌∷◌, ◌&&◌, ◌||◌, ◌<◌, ◌^◌, [], not, IfOk, OnOk, map};
 ghost use Rattle.adj_tree.specs.Code.{plain};
 ghost use Rattle.adj_tree.specs.View.{act_of, terms_of};
 ghost use Rattle.def_sweep.specs.Facts.{whole, is_adjointed};
@@ -14,7 +14,7 @@ ghost use Rattle.adj_activity.specs.Starts.{row_activity, outright_at, outright_
 
 use crate::adjoints::statement;
 use crate::found::Found;
-use adj_flow::{End, Flow, Occurrences, Part, Point, Standing, number, told};
+use adj_flow::{End, Flow, Occurrences, Part, Point, Standing, number, told_by_bit};
 use adj_reach::flag_at;
 use adj_tree::{Act, Exprs, Memory, Name, Place};
 use std::alloc::Global;
@@ -43,8 +43,10 @@ fn is_adjointed(
     part: &Part<'_>,
     number_of: usize,
     target: &Place,
-) -> Result<bool, Memory>
-    ensures is { IfOk result (λ b. b ≡ is_adjointed (activity_marks (row_activity found.entry width (row_of part.now)) (row_of part.now).part.number) number_of (plain target.now.name) (terms_of target.now.subs)) }
+) -> bool
+    requires width { width < 2 ^ 30 }
+    requires number { number_of < 2 ^ 30 }
+    ensures is { result ≡ is_adjointed (activity_marks (row_activity found.entry width (row_of part.now)) (row_of part.now).part.number) number_of (plain target.now.name) (terms_of target.now.subs) }
 {
     let name = &target.name;
     let occurrences = Occurrences {
@@ -56,23 +58,24 @@ fn is_adjointed(
     };
     let after = End {
         part,
-        point: number(Point::After(number_of))?,
+        point: number(Point::After(number_of)),
         name,
     };
-    let has_shadow = occurrences.has_shadow(name)?;
-    let was_varied = occurrences.was_varied(name)?;
-    let is_varied = told(found.varied, width, after)?;
-    let is_useful = told(found.useful, width, after)?;
+    let has_shadow = occurrences.has_shadow(name);
+    let was_varied = occurrences.was_varied(name);
+    let is_varied = told_by_bit(found.varied, width, after);
+    let is_useful = told_by_bit(found.useful, width, after);
     let whole = is_whole(target);
-    Ok(decided(has_shadow, whole, was_varied, is_varied, is_useful))
+    decided(has_shadow, whole, was_varied, is_varied, is_useful)
 }
 
 // Adds the number of a statement, if it is adjointed.
 fn add_if(nodes: &mut Vec<usize>, number: usize, is_adjointed: bool) -> Result<(), Memory>
+    requires number { number < 2 ^ 30 }
     ensures added { OnOk result (nodes.new.items ≡ nodes.old.items ++ map adjoint_number (list_if is_adjointed (statement number ∷ []))) }
 {
     if is_adjointed {
-        nodes.push(statement(number)?)?;
+        nodes.push(statement(number))?;
     }
     Ok(())
 }
@@ -85,12 +88,13 @@ fn add_standing(
     part: &Part<'_>,
     standing: &Standing<'_>,
 ) -> Result<(), Memory>
+    requires width { width < 2 ^ 30 }
     ensures added { OnOk result (nodes.new.items ≡ nodes.old.items ++ outright_at found.entry width (row_of part.now) (standing_of standing.now)) }
 {
     let number = standing.number;
     match standing.act {
         Act::Assign(target, _) => {
-            let is_adjointed = is_adjointed(found, width, part, number, target)?;
+            let is_adjointed = is_adjointed(found, width, part, number, target);
             add_if(nodes, number, is_adjointed)
         }
         Act::Loop(x, _, _, _, _, _) => {
@@ -101,7 +105,7 @@ fn add_standing(
                 part,
                 statement: number,
             };
-            let is_adjointed = occurrences.resets(x)?;
+            let is_adjointed = occurrences.resets(x);
             add_if(nodes, number, is_adjointed)
         }
         Act::If(_, _, _) | Act::While(_, _) | Act::Call(_, _) | Act::Run(_) => Ok(()),
@@ -115,6 +119,7 @@ fn add_unit(
     width: usize,
     part: &Part<'_>,
 ) -> Result<(), Memory>
+    requires width { width < 2 ^ 30 }
     ensures added { OnOk result (nodes.new.items ≡ nodes.old.items ++ outright_in found.entry width (row_of part.now)) }
 {
     for standing in part.statements.as_slice() {
@@ -131,6 +136,7 @@ fn add_taking(
     part: &Part<'_>,
     takes_part: bool,
 ) -> Result<(), Memory>
+    requires width { width < 2 ^ 30 }
     ensures added { OnOk result (nodes.new.items ≡ nodes.old.items ++ list_if takes_part (outright_in found.entry width (row_of part.now))) }
 {
     if takes_part {

@@ -1,9 +1,10 @@
 //! The edges between what has an adjoint: statements, which have the even numbers, and units, which have the odd ones.
 
-ghost use Rattle.std.specs.Prelude.{◌≡◌, ◌+◌, ◌*◌, ◌++◌, IfOk, OnOk, map};
+ghost use Rattle.std.specs.Prelude.{◌≡◌, ◌+◌, ◌*◌, ◌<◌, ◌^◌, ◌++◌, OnOk, map};
 ghost use Rattle.adj_tree.specs.View.{act_of};
 ghost use Rattle.def_flow.specs.Rules.{holders};
 ghost use Rattle.adj_symbols_writes.specs.Table.{value_of};
+ghost use Rattle.adj_flow.specs.Low.{IsLow};
 ghost use Rattle.adj_flow.specs.Rows.{row_of};
 ghost use Rattle.adj_flow.specs.View.{place_of, standing_of};
 ghost use Rattle.adj_flow.specs.NodeView.{found_at};
@@ -14,29 +15,30 @@ use adj_flow::{Part, Place, Standing};
 use adj_tree::{Act, Memory};
 
 /// The number of a statement.
-pub(crate) fn statement(number: usize) -> Result<usize, Memory>
-    ensures number { IfOk result (λ n. n ≡ 2 * number) }
+pub(crate) fn statement(number: usize) -> usize
+    requires low { number < 2 ^ 30 }
+    ensures number { result ≡ 2 * number }
 {
-    number.checked_mul(2).ok_or(Memory)
+    2 * number
 }
 
 // The number of a unit.
-fn unit(number: usize) -> Result<usize, Memory>
-    ensures number { IfOk result (λ n. n ≡ 2 * number + 1) }
+fn unit(number: usize) -> usize
+    requires low { number < 2 ^ 30 }
+    ensures number { result ≡ 2 * number + 1 }
 {
-    let even = number.checked_mul(2).ok_or(Memory)?;
-    even.checked_add(1).ok_or(Memory)
+    2 * number + 1
 }
 
 // Adds the edge to the statement that holds what stands at a place.
 fn add_holder(edges: &mut Vec<(usize, usize)>, from: usize, place: Place<'_>) -> Result<(), Memory>
+    requires low { IsLow place }
     ensures added { OnOk result (edges.new.items ≡ edges.old.items ++ map (λ i. (from, 2 * i)) (holders (place_of place.entry))) }
 {
     match place {
         Place::Outermost => Ok(()),
         Place::PartOf(holder) | Place::TurnOf(holder, _) => {
-            let to = statement(holder)?;
-            edges.push((from, to))?;
+            edges.push((from, statement(holder)))?;
             Ok(())
         }
     }
@@ -54,8 +56,7 @@ fn add_maker(
     match act {
         Act::Call(name, _) => match units.find(name) {
             Some(called) => {
-                let from = unit(called.number)?;
-                edges.push((from, to))?;
+                edges.push((unit(called.number), to))?;
                 Ok(())
             }
             None => Ok(()),
@@ -77,9 +78,8 @@ pub(crate) fn add_made(
 ) -> Result<(), Memory>
     ensures added { OnOk result (edges.new.items ≡ edges.old.items ++ made_edges (λ x. found_at (map row_of units.entry.parts.now) (value_of x units.entry.numbers.now)) (row_of part.now).part.number (standing_of standing.now)) }
 {
-    let at = statement(standing.number)?;
+    let at = statement(standing.number);
     add_holder(edges, at, standing.place)?;
-    let unit = unit(part.number)?;
-    edges.push((at, unit))?;
+    edges.push((at, unit(part.number)))?;
     add_maker(edges, units, at, standing.act)
 }

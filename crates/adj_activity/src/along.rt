@@ -28,8 +28,8 @@ pub(crate) struct Along {
 fn add_arc(arcs: &mut Vec<Arc>, part: &Part<'_>, way: Way<'_>) -> Result<(), Memory>
     ensures added { OnOk result (arcs.new.items ≡ arcs.old.items ++ arc_of (row_of part.now) (way_of way.entry) ∷ []) }
 {
-    let from = number(way.from)?;
-    let to = number(way.to)?;
+    let from = number(way.from);
+    let to = number(way.to);
     let left = assigned_place(part, way.deed);
     let arc = Arc {
         from,

@@ -1,6 +1,6 @@
 //! The edges of calls.
 
-ghost use Rattle.std.specs.Prelude.{◌≡◌, ◌++◌, OnOk, None, Some, map, flat_map};
+ghost use Rattle.std.specs.Prelude.{◌≡◌, ◌++◌, ◌<◌, ◌^◌, OnOk, None, Some, map, flat_map};
 ghost use Rattle.adj_tree.specs.Code.{plain};
 ghost use Rattle.adj_tree.specs.View.{act_of};
 ghost use Rattle.adj_flow.specs.Rows.{row_of};
@@ -12,8 +12,8 @@ ghost use Rattle.adj_activity.specs.View.{pair_edges, call_edges};
 
 use crate::steps::{Site, Steps};
 use adj_flow::actuals::{Units, pairs};
-use adj_flow::{End, Part, Point, add_edge, number, told};
-use adj_tree::{Act, Memory, Name};
+use adj_flow::{End, Part, Point, add_edge, number, told_by_bit};
+use adj_tree::{Act, BitFlags, Memory, Name};
 use std::alloc::Global;
 
 // Adds the edges of flow between a dummy and its actual in the call of a number.
@@ -25,10 +25,12 @@ fn add_passed(
     statement: usize,
     pair: (&Name, &Name),
 ) -> Result<(), Memory>
+    requires width { width < 2 ^ 30 }
+    requires statement { statement < 2 ^ 30 }
     ensures added { OnOk result (edges.new.items ≡ edges.old.items ++ called_edges width (vars_of (row_of caller.now)) (λ g. vars_of (row_of called.now)) statement (row_of called.now).part pair.entry.0.now (plain pair.entry.1.now)) }
 {
-    let before = number(Point::Before(statement))?;
-    let after = number(Point::After(statement))?;
+    let before = number(Point::Before(statement));
+    let after = number(Point::After(statement));
     let (dummy, actual) = pair;
     let given = End {
         part: caller,
@@ -58,11 +60,12 @@ fn add_passed(
 fn add_lent(
     edges: &mut Vec<(usize, usize)>,
     width: usize,
-    varied: &[bool],
+    varied: &BitFlags,
     caller: &Part<'_>,
     called: &Part<'_>,
     pair: (&Name, &Name),
 ) -> Result<(), Memory>
+    requires width { width < 2 ^ 30 }
     ensures added { OnOk result (edges.new.items ≡ edges.old.items ++ lent_edges width (vars_of (row_of caller.now)) (λ g. vars_of (row_of called.now)) (told_at varied.now width (row_of called.now)) (row_of caller.now).part.number (row_of called.now).part pair.entry.0.now (plain pair.entry.1.now)) }
 {
     let (dummy, actual) = pair;
@@ -82,7 +85,7 @@ fn add_lent(
         name: actual,
     };
     add_edge(edges, width, taken, given)?;
-    if told(varied, width, entry)? {
+    if told_by_bit(varied, width, entry) {
         add_edge(edges, width, given, taken)?;
     }
     Ok(())
@@ -96,6 +99,7 @@ fn add_bound(
     statement: usize,
     pair: (&Name, &Name),
 ) -> Result<(), Memory>
+    requires statement { statement < 2 ^ 30 }
     ensures added { OnOk result (edges.new.items ≡ edges.old.items ++ pair_edges site.entry.steps site.entry.width (row_of site.entry.part.now) statement (row_of called.now) pair.entry.0.now (plain pair.entry.1.now)) }
 {
     match site.steps {
@@ -113,6 +117,7 @@ fn add_pairs(
     statement: usize,
     pairs: &[(&Name, &Name)],
 ) -> Result<(), Memory>
+    requires statement { statement < 2 ^ 30 }
     ensures added { OnOk result (edges.new.items ≡ edges.old.items ++ flat_map (λ b. pair_edges site.entry.steps site.entry.width (row_of site.entry.part.now) statement (row_of called.now) b.0 b.1) (map pair_of pairs.now)) }
 {
     for pair in pairs {
@@ -130,6 +135,7 @@ pub(crate) fn add_call(
     statement: usize,
     act: &Act,
 ) -> Result<(), Memory>
+    requires statement { statement < 2 ^ 30 }
     ensures added { OnOk result (edges.new.items ≡ edges.old.items ++ call_edges site.entry.steps (λ x. found_at (map row_of units.entry.parts.now) (value_of x units.entry.numbers.now)) site.entry.width (row_of site.entry.part.now) statement (act_of act.now)) }
 {
     match act {

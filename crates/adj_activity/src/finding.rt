@@ -1,6 +1,6 @@
 //! The activity of a program, and which of its variables carry a tangent.
 
-ghost use Rattle.std.specs.Prelude.{◌≡◌, ◌↔◌, ◌++◌, ℕ, IfOk, IsTrue, map};
+ghost use Rattle.std.specs.Prelude.{◌≡◌, ◌↔◌, ◌++◌, ◌<◌, ◌^◌, ◌*◌, ℕ, IfOk, IsTrue, map};
 ghost use Rattle.def_flow.specs.Activity.{IsActivity};
 ghost use Rattle.adj_flow.specs.Rows.{row_of};
 ghost use Rattle.adj_reach.specs.Edges.{ReachedFrom, ReachedBack, flag};
@@ -18,10 +18,10 @@ use crate::found::{Found, Sets};
 use crate::listing::edges;
 use crate::starts::{add_all_active, add_flagged};
 use crate::steps::Steps;
-use adj_flow::{Flow, Part};
+use adj_flow::{Flow, Part, picked};
 use adj_reach::reached;
-use adj_reach_rows::{reached_back_by_rows, reached_by_rows};
-use adj_tree::{Activity, Flags, Head, Memory};
+use adj_reach_rows::{Rows, reached_back_by_rows, reached_by_rows};
+use adj_tree::{Activity, BitFlags, Flags, Head, Memory};
 use std::alloc::Global;
 
 // Where flow begins or ends: the flagged dummies of the head at a point.
@@ -32,6 +32,8 @@ fn point_nodes(
     point: usize,
     flags: &[bool],
 ) -> Result<Vec<usize>, Memory>
+    requires width { width < 2 ^ 30 }
+    requires point { point < 5 * 2 ^ 30 }
     ensures nodes { IfOk result (λ v. v.items ≡ point_nodes width (row_of part.now) point flags.now) }
 {
     let mut nodes = Vec::new(alloc);
@@ -46,7 +48,7 @@ fn varied(
     part: &Part<'_>,
     head: &Head,
     along: &Along,
-) -> Result<Flags, Memory>
+) -> Result<BitFlags, Memory>
     requires flow { AreNumbered flow.now flow.now.width }
     requires along { AreAlong flow.now along.now }
     ensures varied { IfOk result (λ f. (m : ℕ) → IsTrue (flag f m) ↔ ReachedFrom (flow_listed (map row_of flow.now.parts.items) flow.now.numbers flow.now.taking flow.now.width) (point_nodes flow.now.width (row_of part.now) (row_of part.now).part.entry head.now.vars) m) }
@@ -69,7 +71,7 @@ fn useful(
     part: &Part<'_>,
     head: &Head,
     along: &Along,
-) -> Result<Flags, Memory>
+) -> Result<BitFlags, Memory>
     requires flow { AreNumbered flow.now flow.now.width }
     requires along { AreAlong flow.now along.now }
     ensures useful { IfOk result (λ f. (m : ℕ) → IsTrue (flag f m) ↔ ReachedBack (flow_listed (map row_of flow.now.parts.items) flow.now.numbers flow.now.taking flow.now.width) (point_nodes flow.now.width (row_of part.now) (row_of part.now).part.end head.now.outvars) m) }
@@ -91,7 +93,7 @@ fn flowing(
     flow: &Flow<'_>,
     part: &Part<'_>,
     head: &Head,
-) -> Result<(Flags, Flags), Memory>
+) -> Result<(BitFlags, BitFlags), Memory>
     requires { AreNumbered flow.now flow.now.width }
     ensures varied { IfOk result (λ f. (m : ℕ) → IsTrue (flag f.0 m) ↔ ReachedFrom (flow_listed (map row_of flow.now.parts.items) flow.now.numbers flow.now.taking flow.now.width) (point_nodes flow.now.width (row_of part.now) (row_of part.now).part.entry head.now.vars) m) }
     ensures useful { IfOk result (λ f. (m : ℕ) → IsTrue (flag f.1 m) ↔ ReachedBack (flow_listed (map row_of flow.now.parts.items) flow.now.numbers flow.now.taking flow.now.width) (point_nodes flow.now.width (row_of part.now) (row_of part.now).part.end head.now.outvars) m) }
@@ -140,34 +142,36 @@ fn shadowed(
 }
 
 // The statements that have an adjoint, and the units that hold one.
-fn adjointed(alloc: Global, flow: &Flow<'_>, found: Found<'_>) -> Result<Flags, Memory>
+fn adjointed(alloc: Global, flow: &Flow<'_>, found: Found<'_>) -> Result<BitFlags, Memory>
     ensures adjointed { IfOk result (λ f. (m : ℕ) → IsTrue (flag f m) ↔ ReachedFrom (adjoints_listed (map row_of flow.now.parts.items) flow.now.numbers flow.now.taking flow.now.width) (all_outright found.entry (map row_of flow.now.parts.items) flow.now.taking flow.now.width) m) }
 {
     let edges = edges(alloc, flow, Steps::Adjoints)?;
     let nodes = outright(alloc, flow, found)?;
-    reached(alloc, edges.as_slice(), nodes.as_slice())
+    let rows = Rows::new(alloc, 0, 2)?;
+    reached_by_rows(alloc, 2, &rows, &[], edges.as_slice(), nodes.as_slice())
 }
 
 /// The activity of the program of which this is the flow, for a head: varied and useful variables by node, which statements have an
-/// adjoint (with the even numbers; units that hold one have the odd ones), and which variables of units a shadow.
+/// adjoint, and which variables of units a shadow.
 pub fn activity(alloc: Global, flow: &Flow<'_>, head: &Head) -> Result<Activity, Memory>
     requires flow { IsFlow flow.now head.now.unit }
     ensures activity { IfOk result (λ a. IsActivity (problem_of flow.now head.now) (activity_of flow.now a)) }
 {
     let part = &flow.parts.as_slice()[head.unit];
     let (varied, useful) = flowing(alloc, flow, part, head)?;
-    let useful_at = useful.as_slice();
     let sets = Sets {
-        varied: varied.as_slice(),
-        useful: Some(useful_at),
+        varied: &varied,
+        useful: Some(&useful),
     };
     let shadowed = shadowed(alloc, flow, part, head, sets)?;
     let found = Found {
-        varied: sets.varied,
-        useful: useful_at,
+        varied: &varied,
+        useful: &useful,
         shadowed: shadowed.as_slice(),
     };
-    let adjointed = adjointed(alloc, flow, found)?;
+    let reached = adjointed(alloc, flow, found)?;
+    // Statements have the even numbers.
+    let adjointed = picked(alloc, &reached, 2, 0)?;
     Ok(Activity {
         varied,
         useful,
@@ -188,7 +192,7 @@ pub fn carried(alloc: Global, flow: &Flow<'_>, head: &Head) -> Result<Flags, Mem
     let varied = varied(alloc, flow, part, head, &along)?;
     // An actual lends only to a dummy that is varied at its unit's entry, and such a dummy carries one by itself.
     let sets = Sets {
-        varied: varied.as_slice(),
+        varied: &varied,
         useful: None,
     };
     let carried = shadowed(alloc, flow, part, head, sets)?;

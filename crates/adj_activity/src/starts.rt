@@ -1,6 +1,6 @@
 //! Where flow begins and ends, and which variables have a shadow or a tangent outright.
 
-ghost use Rattle.std.specs.Prelude.{◌≡◌, ◌+◌, ◌*◌, ◌<◌, ◌++◌, ◌&&◌, ◌||◌, ℕ, IfOk, OnOk, map, length};
+ghost use Rattle.std.specs.Prelude.{◌≡◌, ◌+◌, ◌*◌, ◌<◌, ◌++◌, ◌&&◌, ◌||◌, ◌^◌, ℕ, IfOk, OnOk, map, length};
 ghost use Rattle.adj_tree.specs.Code.{plain};
 ghost use Rattle.def_flow.specs.Rules.{somewhere};
 ghost use Rattle.def_names.specs.VariableLists.{list_if};
@@ -13,7 +13,7 @@ ghost use Rattle.adj_activity.specs.Starts.{point_nodes, is_useful_in, active_no
 use crate::found::Sets;
 use adj_flow::{End, Flow, Part, Way, add_node, number};
 use adj_reach::flag_at;
-use adj_tree::{Memory, Name};
+use adj_tree::{BitFlags, Memory, Name};
 use std::alloc::Global;
 
 /// Adds the numbers at a point of those dummies of a unit that are flagged.
@@ -24,6 +24,8 @@ pub(crate) fn add_flagged(
     point: usize,
     flags: &[bool],
 ) -> Result<(), Memory>
+    requires width { width < 2 ^ 30 }
+    requires point { point < 5 * 2 ^ 30 }
     ensures added { OnOk result (nodes.new.items ≡ nodes.old.items ++ point_nodes width (row_of part.now) point flags.now) }
 {
     let dummies = part.unit.dummies.as_slice();
@@ -35,29 +37,29 @@ pub(crate) fn add_flagged(
 }
 
 // Joins the flags at a point to those of some variables of a unit.
-fn join(seen: &mut [bool], flags: &[bool], width: usize, point: usize) -> Result<(), Memory>
+fn join(seen: &mut [bool], flags: &BitFlags, width: usize, point: usize) -> Result<(), Memory>
     ensures count { length seen.new ≡ length seen.old }
     ensures joined { OnOk result ((j : ℕ) → j < length seen.old → flag seen.new j ≡ (flag seen.old j || flag flags.now (point * width + j))) }
 {
     let first = point.checked_mul(width).ok_or(Memory)?;
     for place in 0..seen.len() {
         let node = first.checked_add(place).ok_or(Memory)?;
-        seen[place] = seen[place] || flag_at(flags, node);
+        seen[place] = seen[place] || flags.at(node);
     }
     Ok(())
 }
 
 // Joins those at the ends of a way.
-fn join_ends(seen: &mut [bool], flags: &[bool], width: usize, way: Way<'_>) -> Result<(), Memory>
+fn join_ends(seen: &mut [bool], flags: &BitFlags, width: usize, way: Way<'_>) -> Result<(), Memory>
     ensures count { length seen.new ≡ length seen.old }
     ensures joined { OnOk result ((j : ℕ) → j < length seen.old → flag seen.new j ≡ ((flag seen.old j || flag flags.now ((way_of way.entry).from * width + j)) || flag flags.now ((way_of way.entry).to * width + j))) }
 {
-    join(seen, flags, width, number(way.from)?)?;
-    join(seen, flags, width, number(way.to)?)
+    join(seen, flags, width, number(way.from))?;
+    join(seen, flags, width, number(way.to))
 }
 
 // Which variables of a unit are flagged at one of its points, by place.
-fn seen(alloc: Global, flags: &[bool], width: usize, part: &Part<'_>) -> Result<Vec<bool>, Memory>
+fn seen(alloc: Global, flags: &BitFlags, width: usize, part: &Part<'_>) -> Result<Vec<bool>, Memory>
     ensures seen { IfOk result (λ v. AreSeen v.items flags.now width (row_of part.now)) }
 {
     let mut seen = vec![in alloc; false; part.variables.as_slice().len()]?;
@@ -70,7 +72,7 @@ fn seen(alloc: Global, flags: &[bool], width: usize, part: &Part<'_>) -> Result<
 // Which variables of a unit are useful at one of its points, by these flags; without flags all are.
 fn useful(
     alloc: Global,
-    flags: Option<&[bool]>,
+    flags: Option<&BitFlags>,
     width: usize,
     part: &Part<'_>,
 ) -> Result<Vec<bool>, Memory>
@@ -111,6 +113,7 @@ fn add_active(
     part: &Part<'_>,
     sets: Sets<'_>,
 ) -> Result<(), Memory>
+    requires width { width < 2 ^ 30 }
     ensures added { OnOk result (nodes.new.items ≡ nodes.old.items ++ active_nodes sets.entry.varied.now sets.entry.useful width (row_of part.now)) }
 {
     let varied = seen(alloc, sets.varied, width, part)?;
@@ -143,6 +146,7 @@ fn add_taking(
     sets: Sets<'_>,
     takes_part: bool,
 ) -> Result<(), Memory>
+    requires width { width < 2 ^ 30 }
     ensures added { OnOk result (nodes.new.items ≡ nodes.old.items ++ list_if takes_part (active_nodes sets.entry.varied.now sets.entry.useful width (row_of part.now))) }
 {
     if takes_part {

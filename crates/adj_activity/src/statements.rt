@@ -1,6 +1,6 @@
 //! The edges of assignments and calls.
 
-ghost use Rattle.std.specs.Prelude.{◌≡◌, ◌+◌, ◌*◌, ◌++◌, OnOk, flat_map};
+ghost use Rattle.std.specs.Prelude.{◌≡◌, ◌+◌, ◌*◌, ◌++◌, ◌<◌, ◌^◌, OnOk, flat_map};
 ghost use Rattle.adj_tree.specs.Code.{plain};
 ghost use Rattle.adj_tree.specs.View.{term_of, act_of};
 ghost use Rattle.def_names.specs.VariableLists.{occurring_in};
@@ -51,10 +51,12 @@ fn add_assigned(
     target: &Name,
     names: &[&Name],
 ) -> Result<(), Memory>
+    requires width { width < 2 ^ 30 }
+    requires statement { statement < 2 ^ 30 }
     ensures added { OnOk result (edges.new.items ≡ edges.old.items ++ flat_map (λ v. linked (node_in width (vars_of (row_of part.now)) (3 * statement, v)) (node_in width (vars_of (row_of part.now)) (3 * statement + 1, plain target.now))) (vars_seen names.now)) }
 {
-    let before = number(Point::Before(statement))?;
-    let after = number(Point::After(statement))?;
+    let before = number(Point::Before(statement));
+    let after = number(Point::After(statement));
     let to = End {
         part,
         point: after,
@@ -80,6 +82,8 @@ pub(crate) fn add_assignment(
     statement: usize,
     act: &Act,
 ) -> Result<(), Memory>
+    requires width { width < 2 ^ 30 }
+    requires statement { statement < 2 ^ 30 }
     ensures added { OnOk result (edges.new.items ≡ edges.old.items ++ assigned_edges width (vars_of (row_of part.now)) statement (act_of act.now)) }
 {
     match act {

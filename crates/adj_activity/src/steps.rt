@@ -1,6 +1,9 @@
 //! Which steps are listed as edges.
 
+ghost use Rattle.std.specs.Prelude.{◌<◌, ◌^◌};
+
 use adj_flow::Part;
+use adj_tree::BitFlags;
 
 /// The steps of a rule.
 #[derive(Clone, Copy)]
@@ -8,7 +11,7 @@ pub(crate) enum Steps<'f> {
     /// Flow, between variables at points.
     Flow,
     /// Lent shadows, between variables of units, by the flags of varied variables at points.
-    Shadows(&'f [bool]),
+    Shadows(&'f BitFlags),
     /// From what has an adjoint to what has one by that: statements, and units.
     Adjoints,
 }
@@ -19,4 +22,5 @@ pub(crate) struct Site<'p, 'a, 'f> {
     pub steps: Steps<'f>,
     pub width: usize,
     pub part: &'p Part<'a>,
+    pub ghost narrow: { width < 2 ^ 30 },
 }

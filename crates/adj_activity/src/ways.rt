@@ -1,6 +1,6 @@
 //! The edges of ways on which a unit is called.
 
-ghost use Rattle.std.specs.Prelude.{◌≡◌, ◌++◌, ◌&&◌, ◌||◌, ℕ, List, not, is_some, IfOk, OnOk, map, flat_map};
+ghost use Rattle.std.specs.Prelude.{◌≡◌, ◌++◌, ◌&&◌, ◌||◌, ◌<◌, ◌^◌, ℕ, List, not, is_some, IfOk, OnOk, map, flat_map};
 ghost use Rattle.adj_tree.specs.Code.{plain};
 ghost use Rattle.adj_tree.specs.View.{term_of, terms_of};
 ghost use Rattle.adj_symbols_writes.specs.Table.{value_of};
@@ -73,9 +73,10 @@ fn add_way(
     part: &Part<'_>,
     way: Way<'_>,
 ) -> Result<(), Memory>
+    requires width { width < 2 ^ 30 }
     ensures added { OnOk result (edges.new.items ≡ edges.old.items ++ way_edges width (vars_of (row_of part.now)) (way_of way.entry)) }
 {
-    let points = (number(way.from)?, number(way.to)?);
+    let points = (number(way.from), number(way.to));
     let passed = passed(alloc, way.deed)?;
     for name in part.variables.as_slice() {
         let is_carried = is_carried(way.deed, &passed, name);
@@ -92,6 +93,7 @@ fn add_call_way(
     part: &Part<'_>,
     way: Way<'_>,
 ) -> Result<(), Memory>
+    requires width { width < 2 ^ 30 }
     ensures added { OnOk result (edges.new.items ≡ edges.old.items ++ call_way width (row_of part.now) (way_of way.entry)) }
 {
     match way.deed {
@@ -107,6 +109,7 @@ pub(crate) fn add_call_ways(
     width: usize,
     part: &Part<'_>,
 ) -> Result<(), Memory>
+    requires width { width < 2 ^ 30 }
     ensures added { OnOk result (edges.new.items ≡ edges.old.items ++ flat_map (call_way width (row_of part.now)) (map way_of part.now.ways.items)) }
 {
     for way in part.ways.as_slice() {

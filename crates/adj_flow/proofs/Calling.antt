@@ -1,6 +1,7 @@
 -- The calls that are listed are those by which units take part.
-use Rattle.std.proofs.Common.{◌≡◌, ◌⊎◌, inl, inr, ℕ, zero, suc, ◌+◌, ◌<◌, List, [], ◌∷◌, ◌++◌, Bool, true, false, refl, sym, ap, ◌∙◌, subst, arith, length, get_or}
+use Rattle.std.proofs.Common.{◌≡◌, ◌⊎◌, inl, inr, ℕ, zero, suc, ◌+◌, ◌<◌, List, [], ◌∷◌, ◌++◌, Bool, true, false, refl, sym, ap, ◌∙◌, subst, arith, length, map, get_or}
 use Rattle.std.specs.Prelude.{Contains, Option, Some, None, if◌then◌else◌, slice_get}
+use Rattle.std.proofs.lemmas.List.Concat.{flat_map-cons}
 use Rattle.std.proofs.lemmas.List.Elements.{Contains-get_or, Contains-append_left, Contains-append_right, Contains-append_cases}
 use Rattle.adj_tree.specs.Code.{name_eq, Terms, Act, assign, choose, loop, during, call, runtime, Procedure}
 use Rattle.def_names.specs.Numbers.{behind}
@@ -14,7 +15,8 @@ use Rattle.def_flow.proofs.Numbered.{IsListed}
 use Rattle.def_flow.proofs.PartsListed.{part_above, part_own}
 use Rattle.adj_symbols_writes.proofs.Rows.{name_comm}
 use Rattle.adj_symbols_writes.specs.Graph.{number_from}
-use Rattle.adj_flow.specs.Calls.{called_by, with_call, calls_in, calls_from}
+use Rattle.adj_flow.specs.Calls.{called_by, with_call, calls_in, calls_from, calls_of}
+use Rattle.adj_flow.specs.Rows.{Row, row_in}
 
 -- ---- units and their numbers
 
@@ -100,6 +102,13 @@ all_only find t u i (q ∷ qs) e c = go (Contains-append_cases (calls_in find u 
     go (inl m) r = let o = calls_only find u (standing outermost i q.body) e m in
         (part t u i q, is_first (part t u i q) (part t u i q) (parts_from t (suc u) (behind i q.body) qs) refl, sym o.0, o.1)
     go (inr m) r = let o = r m in (o.0, is_later o.0 (part t u i q) (parts_from t (suc u) (behind i q.body) qs) o.1, o.2, o.3)
+
+-- the calls of the rows of units are those of the units
+pub rows_calls : (find : List ℕ → Option ℕ) (vss : List (List (List ℕ))) (t u i : ℕ) (qs : List Procedure) → calls_of find (map (row_in vss) (parts_from t u i qs)) ≡ calls_from find u i qs
+rows_calls find vss t u i [] = refl
+rows_calls find vss t u i (q ∷ qs) =
+    flat_map-cons (λ (r : Row). calls_in find r.part.number r.statements) (row_in vss (part t u i q)) (map (row_in vss) (parts_from t (suc u) (behind i q.body) qs))
+    ∙ ap (λ z. calls_in find u (standing outermost i q.body) ++ z) (rows_calls find vss t (suc u) (behind i q.body) qs)
 
 -- a statement that calls is a call
 is_call : (find : List ℕ → Option ℕ) (a : Act) (n : ℕ) → called_by find a ≡ Some n → (name : List ℕ) × (args : Terms) × (a ≡ call name args) × (find name ≡ Some n)

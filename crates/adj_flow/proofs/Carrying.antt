@@ -94,10 +94,10 @@ pub reached_back_same : (w : ℕ) (rows : Rows) (arcs : List Arc) (edges all : E
     (m : ℕ) → ReachedBackByRows w rows arcs edges start m ↔ ReachedBack all start m
 reached_back_same w rows arcs edges all start to from m = (reached_seen (λ x. x) (λ x b. b) (λ x y. to y x) m, reached_seen (λ x. x) (λ x b. b) (λ x y. from y x) m)
 
--- with no steps the nodes themselves are reached
-pub reached_none : (w : ℕ) (rows : Rows) (start : List ℕ) (m : ℕ) → ReachedByRows w rows [] [] start m ↔ ReachedFrom [] start m
-reached_none w rows start m = reached_same w rows [] [] [] start to (λ x y c. inl c) m
+-- with no arcs the edges alone lead on
+pub reached_by_edges : (w : ℕ) (rows : Rows) (edges : Edges) (start : List ℕ) (m : ℕ) → ReachedByRows w rows [] edges start m ↔ ReachedFrom edges start m
+reached_by_edges w rows edges start m = reached_same w rows [] edges edges start to (λ x y c. inl c) m
   where
-    to : (x y : ℕ) → Leads w rows [] [] x y → Contains {X = ℕ × ℕ} [] (x, y)
+    to : (x y : ℕ) → Leads w rows [] edges x y → Contains edges (x, y)
     to x y (inl c) = c
     to x y (inr (a, c, h)) = absurd (is_none a c)

@@ -16,7 +16,7 @@ use Rattle.adj_flow.specs.Rows.{Row, row_of, row_in, rows}
 use Rattle.adj_flow.specs.declared.units.Flow.{Flow}
 use Rattle.adj_flow.specs.UnitRows.{AreNumbered}
 
-parts_length : (t u i : ℕ) (ps : List Procedure) → length (parts_from t u i ps) ≡ length ps
+pub parts_length : (t u i : ℕ) (ps : List Procedure) → length (parts_from t u i ps) ≡ length ps
 parts_length t u i [] = refl
 parts_length t u i (p ∷ ps) = ap suc (parts_length t (suc u) (behind i p.body) ps)
 

@@ -13,7 +13,7 @@ use Rattle.adj_flow.specs.NodeView.{vars_of}
 use Rattle.adj_flow.specs.Rows.{Row}
 use Rattle.adj_flow.proofs.Naming.{placed}
 use Rattle.adj_flow.proofs.Places.{place_range, place_only}
-use Rattle.adj_reach_rows.specs.Bits.{bit}
+use Rattle.adj_tree.specs.Bits.{bit}
 use Rattle.adj_reach_rows.specs.declared.bits.Rows.{Rows}
 use Rattle.adj_flow.specs.UnitRows.{IsPlace, HoldPlaces}
 

@@ -4,7 +4,7 @@ use Rattle.def_names.specs.Numbers.{Vars}
 use Rattle.def_names.specs.Numbering.{point_before}
 use Rattle.adj_flow.specs.Rows.{row_of}
 use Rattle.adj_flow.specs.NodeView.{told_at}
-use Rattle.adj_flow.specs.declared.occurrences.Occurrences.{Occurrences}
+use Rattle.adj_flow.specs.declared.occurring.Occurrences.{Occurrences}
 
 -- varied before it
 abbrev pub varied_by : Occurrences → Vars

@@ -5,7 +5,7 @@ use Rattle.def_names.specs.Numbers.{Vars}
 use Rattle.adj_flow.specs.Rows.{Row, row_of}
 use Rattle.adj_flow.specs.Nodes.{node_in}
 use Rattle.adj_flow.specs.Told.{flag_at}
-use Rattle.adj_flow.specs.declared.nodes.End.{End}
+use Rattle.adj_flow.specs.declared.end.End.{End}
 
 -- the variables of a row
 abbrev pub vars_of : Row → List Var

@@ -3,8 +3,8 @@ use Rattle.std.specs.Prelude.{ℕ, ◌+◌, List, ◌∷◌}
 use Rattle.adj_tree.specs.Code.{plain, Act, assign, choose, loop, during, call, runtime, Code, stop, step}
 use Rattle.adj_tree.specs.View.{act_of}
 use Rattle.def_flow.specs.Standing as spec
-use Rattle.adj_flow.specs.declared.standing.Place.{Place}
-use Rattle.adj_flow.specs.declared.standing.Place.TheVariants.{Outermost, PartOf, TurnOf}
+use Rattle.adj_flow.specs.declared.place.Place.{Place}
+use Rattle.adj_flow.specs.declared.place.Place.TheVariants.{Outermost, PartOf, TurnOf}
 use Rattle.adj_flow.specs.declared.standing.Standing.{Standing}
 
 abbrev pub place_of : Place → spec.Place

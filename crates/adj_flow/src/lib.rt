@@ -7,29 +7,38 @@
 #![tactic(auto)]
 
 pub mod actuals;
+mod deed;
+mod end;
 mod nodes;
 mod occurrences;
+mod occurring;
 mod outline;
 mod part;
+mod place;
 mod row;
 mod rows;
 pub mod sides;
 mod splits;
 mod standing;
+mod strided;
 mod unit_rows;
 mod units;
 pub mod variables;
 mod way;
 
 pub use actuals::{Units, pairs};
-pub use nodes::{End, add_carried, add_edge, add_link, add_node, number, told};
-pub use occurrences::Occurrences;
+pub use deed::Deed;
+pub use end::End;
+pub use nodes::{add_carried, add_edge, add_link, add_node, number, told, told_by_bit};
+pub use occurring::Occurrences;
 pub use outline::Outline;
 pub use part::taking_part;
+pub use place::Place;
 pub use row::Part;
 pub use rows::parts;
 pub use sides::{Sides, dummies_of};
-pub use standing::{Place, Standing};
+pub use standing::Standing;
+pub use strided::picked;
 pub use unit_rows::{assigned_place, variable_rows};
 pub use units::Flow;
-pub use way::{Deed, Point, Way};
+pub use way::{Point, Way};

@@ -1,6 +1,6 @@
 //! Numbers of variables at points, and edges between them.
 
-ghost use Rattle.std.specs.Prelude.{◌≡◌, ◌+◌, ◌*◌, ◌++◌, IfOk, OnOk};
+ghost use Rattle.std.specs.Prelude.{◌≡◌, ◌+◌, ◌*◌, ◌<◌, ◌^◌, ◌++◌, OnOk};
 ghost use Rattle.adj_tree.specs.Code.{plain};
 ghost use Rattle.def_flow.specs.Rules.{list_of};
 ghost use Rattle.def_names.specs.VariableLists.{list_if};
@@ -9,66 +9,67 @@ ghost use Rattle.adj_flow.specs.WayView.{number_of};
 ghost use Rattle.adj_flow.specs.Nodes.{linked, node_in};
 ghost use Rattle.adj_flow.specs.NodeView.{end_node, told_at, vars_of};
 
+use crate::end::End;
 use crate::row::Part;
 use crate::way::Point;
 use adj_reach::flag_at;
-use adj_tree::{Memory, Name};
-
-/// A variable of a unit at a point.
-#[derive(Clone, Copy)]
-pub struct End<'p, 'a> {
-    pub part: &'p Part<'a>,
-    pub point: usize,
-    pub name: &'p Name,
-}
+use adj_tree::{BitFlags, Memory, Name};
 
 // The number of the variable at a place, at a point.
-fn node_at(point: usize, width: usize, place: usize) -> Result<usize, Memory>
-    ensures node { IfOk result (λ n. n ≡ point * width + place) }
+fn node_at(point: usize, width: usize, place: usize) -> usize
+    requires point { point < 5 * 2 ^ 30 }
+    requires width { width < 2 ^ 31 }
+    requires place { place < 2 ^ 30 }
+    ensures node { result ≡ point * width + place }
 {
-    let first = point.checked_mul(width).ok_or(Memory)?;
-    first.checked_add(place).ok_or(Memory)
+    point * width + place
 }
 
 impl End<'_, '_> {
-    /// Its number. An error means that numbers don't reach so far.
-    pub fn node(self, width: usize) -> Result<Option<usize>, Memory>
-        ensures node { IfOk result (λ n. n ≡ end_node width self.entry) }
+    /// Its number, where so many numbers are of each point.
+    pub fn node(self, width: usize) -> Option<usize>
+        requires width { width < 2 ^ 31 }
+        ensures node { result ≡ end_node width self.entry }
     {
         match self.part.place(self.name) {
-            None => Ok(None),
-            Some(place) => Ok(Some(node_at(self.point, width, place)?)),
+            None => None,
+            Some(place) => Some(node_at(self.point, width, place)),
         }
     }
 }
 
-// A point of the statement of a number.
-fn point_of(statement: usize, place: usize) -> Result<usize, Memory>
-    ensures point { IfOk result (λ p. p ≡ 3 * statement + place) }
-{
-    let first = statement.checked_mul(3).ok_or(Memory)?;
-    first.checked_add(place).ok_or(Memory)
-}
-
 /// The number of a point.
-pub fn number(point: Point) -> Result<usize, Memory>
-    ensures number { IfOk result (λ p. p ≡ number_of point) }
+pub fn number(point: Point) -> usize
+    requires low { number_of point < 5 * 2 ^ 30 }
+    ensures number { result ≡ number_of point }
 {
     match point {
-        Point::Before(i) => point_of(i, 0),
-        Point::After(i) => point_of(i, 1),
-        Point::Inside(i) => point_of(i, 2),
-        Point::At(p) => Ok(p),
+        Point::Before(i) => 3 * i,
+        Point::After(i) => 3 * i + 1,
+        Point::Inside(i) => 3 * i + 2,
+        Point::At(p) => p,
     }
 }
 
 /// The flag of a variable at a point.
-pub fn told(flags: &[bool], width: usize, end: End<'_, '_>) -> Result<bool, Memory>
-    ensures told { IfOk result (λ b. b ≡ told_at flags.now width (row_of end.entry.part.now) end.entry.point (plain end.entry.name.now)) }
+pub fn told(flags: &[bool], width: usize, end: End<'_, '_>) -> bool
+    requires width { width < 2 ^ 30 }
+    ensures told { result ≡ told_at flags.now width (row_of end.entry.part.now) end.entry.point (plain end.entry.name.now) }
 {
-    match end.node(width)? {
-        Some(node) => Ok(flag_at(flags, node)),
-        None => Ok(false),
+    match end.node(width) {
+        Some(node) => flag_at(flags, node),
+        None => false,
+    }
+}
+
+/// The same, where each flag is a bit.
+pub fn told_by_bit(flags: &BitFlags, width: usize, end: End<'_, '_>) -> bool
+    requires width { width < 2 ^ 30 }
+    ensures told { result ≡ told_at flags.now width (row_of end.entry.part.now) end.entry.point (plain end.entry.name.now) }
+{
+    match end.node(width) {
+        Some(node) => flags.at(node),
+        None => false,
     }
 }
 
@@ -96,11 +97,10 @@ pub fn add_edge(
     from: End<'_, '_>,
     to: End<'_, '_>,
 ) -> Result<(), Memory>
+    requires width { width < 2 ^ 30 }
     ensures added { OnOk result (edges.new.items ≡ edges.old.items ++ linked (end_node width from.entry) (end_node width to.entry)) }
 {
-    let from = from.node(width)?;
-    let to = to.node(width)?;
-    add_link(edges, from, to)
+    add_link(edges, from.node(width), to.node(width))
 }
 
 /// Adds the edge of a variable of a unit from the point of one number to that of another, if it is carried.
@@ -112,6 +112,9 @@ pub fn add_carried(
     name: &Name,
     is_carried: bool,
 ) -> Result<(), Memory>
+    requires width { width < 2 ^ 30 }
+    requires first { points.0 < 5 * 2 ^ 30 }
+    requires second { points.1 < 5 * 2 ^ 30 }
     ensures added { OnOk result (edges.new.items ≡ edges.old.items ++ list_if is_carried (linked (node_in width (vars_of (row_of part.now)) (points.0, plain name.now)) (node_in width (vars_of (row_of part.now)) (points.1, plain name.now)))) }
 {
     if is_carried {
@@ -138,10 +141,11 @@ pub fn add_node(
     end: End<'_, '_>,
     is_wanted: bool,
 ) -> Result<(), Memory>
+    requires width { width < 2 ^ 30 }
     ensures added { OnOk result (nodes.new.items ≡ nodes.old.items ++ list_if is_wanted (list_of (end_node width end.entry))) }
 {
     if is_wanted {
-        if let Some(node) = end.node(width)? {
+        if let Some(node) = end.node(width) {
             nodes.push(node)?;
         }
     }

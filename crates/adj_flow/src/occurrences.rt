@@ -1,6 +1,6 @@
 //! Which variables are active in a statement, and whose values the adjoint of its right side reads.
 
-ghost use Rattle.std.specs.Prelude.{◌≡◌, ◌++◌, ◌&&◌, IfOk, OnOk};
+ghost use Rattle.std.specs.Prelude.{◌≡◌, ◌++◌, ◌&&◌, OnOk};
 ghost use Rattle.adj_tree.specs.Code.{plain};
 ghost use Rattle.adj_tree.specs.View.{term_of, terms_of};
 ghost use Rattle.def_sweep.specs.Occurrences.{is_active_where};
@@ -9,40 +9,30 @@ ghost use Rattle.def_flow.specs.AdjointReads.{adjoint_reads_in};
 ghost use Rattle.adj_symbols_writes.specs.View.{vars_seen};
 ghost use Rattle.adj_flow.specs.Active.{varied_by, shadowed_by, active_by};
 
-use crate::nodes::{End, number, told};
-use crate::row::Part;
+use crate::end::End;
+use crate::nodes::{number, told, told_by_bit};
+use crate::occurring::Occurrences;
 use crate::variables::add_terms_if;
 use crate::way::Point;
 use adj_symbols_writes::variables::add_term;
 use adj_tree::{Expr, Exprs, Memory, Name, Op};
 
-/// The occurrences of variables in the statement of a number of a unit, by the flags of varied variables at points and of the variables
-/// of units that have a shadow, where no unit has more variables than the width.
-#[derive(Clone, Copy)]
-pub struct Occurrences<'f, 'p, 'a> {
-    pub varied: &'f [bool],
-    pub shadowed: &'f [bool],
-    pub width: usize,
-    pub part: &'p Part<'a>,
-    pub statement: usize,
-}
-
 impl Occurrences<'_, '_, '_> {
     /// Whether a variable is varied before the statement.
-    pub fn was_varied(self, name: &Name) -> Result<bool, Memory>
-        ensures was { IfOk result (λ b. b ≡ varied_by self.entry (plain name.now)) }
+    pub fn was_varied(self, name: &Name) -> bool
+        ensures was { result ≡ varied_by self.entry (plain name.now) }
     {
         let before = End {
             part: self.part,
-            point: number(Point::Before(self.statement))?,
+            point: number(Point::Before(self.statement)),
             name,
         };
-        told(self.varied, self.width, before)
+        told_by_bit(self.varied, self.width, before)
     }
 
     /// Whether a variable has a shadow.
-    pub fn has_shadow(self, name: &Name) -> Result<bool, Memory>
-        ensures has { IfOk result (λ b. b ≡ shadowed_by self.entry (plain name.now)) }
+    pub fn has_shadow(self, name: &Name) -> bool
+        ensures has { result ≡ shadowed_by self.entry (plain name.now) }
     {
         let unit = End {
             part: self.part,
@@ -53,33 +43,33 @@ impl Occurrences<'_, '_, '_> {
     }
 
     /// Whether the statement, a DO with this variable, resets its shadow.
-    pub fn resets(self, name: &Name) -> Result<bool, Memory>
-        ensures resets { IfOk result (λ b. b ≡ (shadowed_by self.entry (plain name.now) && varied_by self.entry (plain name.now))) }
+    pub fn resets(self, name: &Name) -> bool
+        ensures resets { result ≡ (shadowed_by self.entry (plain name.now) && varied_by self.entry (plain name.now)) }
     {
-        let has_shadow = self.has_shadow(name)?;
-        let was_varied = self.was_varied(name)?;
-        Ok(has_shadow && was_varied)
+        let has_shadow = self.has_shadow(name);
+        let was_varied = self.was_varied(name);
+        has_shadow && was_varied
     }
 
     // Whether a variable is active: varied before the statement, and with a shadow.
-    fn is_on(self, name: &Name) -> Result<bool, Memory>
-        ensures on { IfOk result (λ b. b ≡ active_by self.entry (plain name.now)) }
+    fn is_on(self, name: &Name) -> bool
+        ensures on { result ≡ active_by self.entry (plain name.now) }
     {
-        let was_varied = self.was_varied(name)?;
-        let has_shadow = self.has_shadow(name)?;
-        Ok(was_varied && has_shadow)
+        let was_varied = self.was_varied(name);
+        let has_shadow = self.has_shadow(name);
+        was_varied && has_shadow
     }
 
     // Whether an active variable stands at a differentiable occurrence.
-    fn is_active_where(self, term: &Expr) -> Result<bool, Memory>
-        ensures active { IfOk result (λ b. b ≡ is_active_where (active_by self.entry) (term_of term.now)) }
+    fn is_active_where(self, term: &Expr) -> bool
+        ensures active { result ≡ is_active_where (active_by self.entry) (term_of term.now) }
     {
         match term {
             Expr::Var(name) | Expr::Elem(name, _) => self.is_on(name),
             Expr::Neg(a) | Expr::Power(a, _) => self.is_active_where(a),
             Expr::Pow(a, exponent) => {
                 if *exponent == 0 {
-                    Ok(false)
+                    false
                 } else {
                     self.is_active_where(a)
                 }
@@ -87,14 +77,14 @@ impl Occurrences<'_, '_, '_> {
             Expr::Bin(op, a, b) => match op {
                 // (in a chain of products the right operand is a factor, and the left one the rest of the chain)
                 Op::Add | Op::Sub | Op::Mul => {
-                    if self.is_active_where(b)? {
-                        return Ok(true);
+                    if self.is_active_where(b) {
+                        return true;
                     }
                     self.is_active_where(a)
                 }
-                Op::Quot | Op::Mod | Op::Max | Op::Min => Ok(false),
+                Op::Quot | Op::Mod | Op::Max | Op::Min => false,
             },
-            Expr::Lit(_) | Expr::Abs(_) => Ok(false),
+            Expr::Lit(_) | Expr::Abs(_) => false,
         }
     }
 
@@ -107,7 +97,7 @@ impl Occurrences<'_, '_, '_> {
     ) -> Result<(), Memory>
         ensures added { OnOk result (vars_seen out.new.items ≡ vars_seen out.old.items ++ list_if (active_by self.entry (plain name.now)) (vars_in_terms (terms_of subs.now))) }
     {
-        let is_on = self.is_on(name)?;
+        let is_on = self.is_on(name);
         add_terms_if(subs, is_on, out)
     }
 
@@ -125,7 +115,7 @@ impl Occurrences<'_, '_, '_> {
                 0 => Ok(()),
                 1 => self.add_reads(a, out),
                 _ => {
-                    if self.is_active_where(a)? {
+                    if self.is_active_where(a) {
                         add_term(a, out)
                     } else {
                         self.add_reads(a, out)
@@ -133,7 +123,7 @@ impl Occurrences<'_, '_, '_> {
                 }
             },
             Expr::Power(a, b) => {
-                if self.is_active_where(a)? {
+                if self.is_active_where(a) {
                     add_term(a, out)?;
                     add_term(b, out)
                 } else {
@@ -146,13 +136,13 @@ impl Occurrences<'_, '_, '_> {
                     self.add_reads(b, out)
                 }
                 Op::Mul => {
-                    let needs_left = self.is_active_where(b)?;
+                    let needs_left = self.is_active_where(b);
                     if needs_left {
                         add_term(a, out)?;
                     } else {
                         self.add_reads(a, out)?;
                     }
-                    let needs_right = self.is_active_where(a)?;
+                    let needs_right = self.is_active_where(a);
                     if needs_right {
                         add_term(b, out)
                     } else {

@@ -1,17 +1,21 @@
 //! The statements and the ways of units, from their trees: the statement of a number stands at its number.
 
-ghost use Rattle.std.specs.Prelude.{◌≡◌, ◌++◌, ◌∷◌, [], length, map, OnOk};
+ghost use Rattle.std.specs.Prelude.{◌≡◌, ◌*◌, ◌<◌, ◌^◌, ◌++◌, ◌∷◌, [], length, map, OnOk};
 ghost use Rattle.adj_tree.specs.Code.{plain};
 ghost use Rattle.adj_tree.specs.View.{act_of, code_of, mark_of, terms_of};
 ghost use Rattle.def_flow.specs.Standing.{standing, body_of};
 ghost use Rattle.def_flow.specs.Ways.{ways, act_ways, way, passing};
 ghost use Rattle.def_names.specs.Numbering.{point_inside};
 ghost use Rattle.def_names.specs.Numbering.{point_before, point_after};
+ghost use Rattle.def_names.specs.Numbers.{behind, next};
+ghost use Rattle.adj_flow.specs.Low.{IsLow};
 ghost use Rattle.adj_flow.specs.View.{place_of, standing_of, statement_at};
 ghost use Rattle.adj_flow.specs.WayView.{number_of, deed_of, assigned_by, way_of};
 
-use crate::standing::{Place, Standing};
-use crate::way::{Deed, Point, Way};
+use crate::deed::Deed;
+use crate::place::Place;
+use crate::standing::Standing;
+use crate::way::{Point, Way};
 use adj_tree::{Act, Exprs, Mark, Memory, Name, Stmts};
 
 /// Statements and ways.
@@ -31,6 +35,10 @@ pub fn add_list<'a>(
     last: Deed<'a>,
     body: &'a Stmts,
 ) -> Result<(), Memory>
+    requires room { behind (length outline.old.statements.items) (code_of body.now) < 2 ^ 30 }
+    requires place { IsLow place }
+    requires first { number_of from < 5 * 2 ^ 30 }
+    requires next { number_of to < 5 * 2 ^ 30 }
     ensures statements { OnOk result (map standing_of outline.new.statements.items ≡ map standing_of outline.old.statements.items ++ standing (place_of place.entry) (length outline.old.statements.items) (code_of body.now)) }
     ensures ways { OnOk result (map way_of outline.new.ways.items ≡ map way_of outline.old.ways.items ++ ways (length outline.old.statements.items) (number_of from) (number_of to) (deed_of last.entry) (code_of body.now)) }
 {
@@ -62,6 +70,8 @@ fn add_statement<'a>(
     place: Place<'a>,
     act: &'a Act,
 ) -> Result<(), Memory>
+    requires room { next (length outline.old.statements.items) (act_of act.now) < 2 ^ 30 }
+    requires place { IsLow place }
     ensures statements { OnOk result (map standing_of outline.new.statements.items ≡ map standing_of outline.old.statements.items ++ statement_at (length outline.old.statements.items) (place_of place.entry) (act_of act.now)) }
     ensures ways { OnOk result (map way_of outline.new.ways.items ≡ map way_of outline.old.ways.items ++ act_ways (length outline.old.statements.items) (act_of act.now)) }
 {
@@ -119,6 +129,7 @@ fn add_statement<'a>(
 
 // Adds the ways to the point inside a loop, on which something is done, and from there behind it.
 fn add_loop_ways<'a>(outline: &mut Outline<'a>, number: usize, deed: Deed<'a>) -> Result<(), Memory>
+    requires number { number < 2 ^ 30 }
     ensures statements { outline.new.statements ≡ outline.old.statements }
     ensures ways { OnOk result (map way_of outline.new.ways.items ≡ map way_of outline.old.ways.items ++ way (point_before number) (point_inside number) (deed_of deed.entry) ∷ way (point_inside number) (point_after number) passing ∷ []) }
 {
@@ -138,6 +149,8 @@ fn add_way<'a>(
     to: Point,
     deed: Deed<'a>,
 ) -> Result<(), Memory>
+    requires first { number_of from < 5 * 2 ^ 30 }
+    requires next { number_of to < 5 * 2 ^ 30 }
     ensures statements { outline.new.statements ≡ outline.old.statements }
     ensures ways { OnOk result (map way_of outline.new.ways.items ≡ map way_of outline.old.ways.items ++ record { from = number_of from; to = number_of to; deed = deed_of deed.entry } ∷ []) }
 {
@@ -157,7 +170,9 @@ fn assigning<'a>(number: usize, name: &'a Name, subs: &Exprs) -> Deed<'a>
 
 // Where the statements in the body of a DO stand.
 fn body_place<'a>(number: usize, x: &'a Name, mark: &Mark) -> Place<'a>
-    ensures { place_of result ≡ body_of number (plain x.now) (mark_of mark.now) }
+    requires number { number < 2 ^ 30 }
+    ensures low { IsLow result }
+    ensures place { place_of result ≡ body_of number (plain x.now) (mark_of mark.now) }
 {
     match mark {
         Mark::Plain => Place::PartOf(number),

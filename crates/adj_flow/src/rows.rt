@@ -7,12 +7,15 @@ ghost use Rattle.def_flow.specs.Parts.{part};
 ghost use Rattle.def_names.specs.StatementsIn.{statements_in};
 ghost use Rattle.adj_symbols_writes.specs.Graph.{place_from};
 ghost use Rattle.adj_symbols_writes.specs.Table.{value_of};
+ghost use Rattle.adj_flow.specs.Low.{AreFew};
 ghost use Rattle.adj_flow.specs.Rows.{row_of, row_at, rows};
 
+use crate::deed::Deed;
 use crate::outline::{Outline, add_list};
+use crate::place::Place;
 use crate::row::Part;
-use crate::standing::{Place, Standing};
-use crate::way::{Deed, Point};
+use crate::standing::Standing;
+use crate::way::Point;
 use adj_symbols_writes::table::Numbers;
 use adj_tree::{Memory, NameList, Unit};
 use std::alloc::Global;
@@ -30,14 +33,13 @@ fn places<'a>(alloc: Global, names: &'a NameList) -> Result<Numbers<'a>, Memory>
 }
 
 // The points of entry and end of a unit of a program with so many statements.
-fn ends(count: usize, number: usize) -> Result<(usize, usize), Memory>
-    ensures ends { IfOk result (λ e. (e.0 ≡ 3 * count + 2 * number) × (e.1 ≡ 3 * count + 2 * number + 1)) }
+fn ends(count: usize, number: usize) -> (usize, usize)
+    requires count { count < 2 ^ 30 }
+    requires number { number < 2 ^ 30 }
+    ensures ends { (result.0 ≡ 3 * count + 2 * number) × (result.1 ≡ 3 * count + 2 * number + 1) }
 {
-    let statements = count.checked_mul(3).ok_or(Memory)?;
-    let units = number.checked_mul(2).ok_or(Memory)?;
-    let entry = statements.checked_add(units).ok_or(Memory)?;
-    let end = entry.checked_add(1).ok_or(Memory)?;
-    Ok((entry, end))
+    let entry = 3 * count + 2 * number;
+    (entry, entry + 1)
 }
 
 // These statements once more.
@@ -58,18 +60,22 @@ fn part<'a>(
     count: usize,
 ) -> Result<Part<'a>, Memory>
     requires none { outline.old.ways.items ≡ [] }
+    requires room { behind (length outline.old.statements.items) (code_of unit.now.body) < 2 ^ 30 }
+    requires count { count < 2 ^ 30 }
+    requires number { number < 2 ^ 30 }
+    requires narrow { length variables.now < 2 ^ 30 }
     ensures row { IfOk result (λ p. row_of p ≡ row_at variables.now (part count number (length outline.old.statements.items) (procedure_of unit.now))) }
     ensures statements { OnOk result (length outline.new.statements.items ≡ behind (length outline.old.statements.items) (code_of unit.now.body)) }
     ensures ways { OnOk result (outline.new.ways.items ≡ []) }
 {
-    let (entry, end) = ends(count, number)?;
+    let points = ends(count, number);
     let first = outline.statements.len();
     let deed = Deed::Passing;
     add_list(
         outline,
         Place::Outermost,
-        Point::At(entry),
-        Point::At(end),
+        Point::At(points.0),
+        Point::At(points.1),
         deed,
         &unit.body,
     )?;
@@ -80,8 +86,8 @@ fn part<'a>(
         number,
         unit,
         first,
-        entry,
-        end,
+        entry: points.0,
+        end: points.1,
         statements,
         ways,
         variables,
@@ -97,6 +103,7 @@ pub fn parts<'a>(
     count: usize,
 ) -> Result<Vec<Part<'a>>, Memory>
     requires variables { length variables.now ≡ length units.now }
+    requires few { AreFew (map (λ b. b.now) variables.now) (map procedure_of units.now) }
     requires count { count ≡ statements_in 0 (map procedure_of units.now) }
     ensures rows { IfOk result (λ v. map row_of v.items ≡ rows (map (λ b. b.now) variables.now) (map procedure_of units.now)) }
 {

@@ -4,12 +4,12 @@ ghost use Rattle.std.specs.Prelude.{◌≡◌, ◌↔◌, ◌⊎◌, ◌+◌, �
 ghost use Rattle.adj_flow.specs.NodeView.{vars_of};
 ghost use Rattle.adj_flow.specs.Rows.{row_of};
 ghost use Rattle.adj_flow.specs.WayView.{deed_of};
-ghost use Rattle.adj_reach_rows.specs.Bits.{bit};
+ghost use Rattle.adj_tree.specs.Bits.{bit};
 ghost use Rattle.adj_flow.specs.UnitRows.{IsPlace, HoldPlaces, AreNumbered, assigned_at};
 
+use crate::deed::Deed;
 use crate::row::Part;
 use crate::units::Flow;
-use crate::way::Deed;
 use adj_reach_rows::Rows;
 use adj_tree::Memory;
 use std::alloc::Global;

@@ -1,8 +1,7 @@
 //! What the analyses go over: all units of a program, and which of them take part.
 
-ghost use Rattle.std.specs.Prelude.{◌≡◌, ◌↔◌, ◌+◌, ◌<◌, ◌≤◌, ◌^◌, ℕ, List, [], false, All, Contains, IfOk, IsTrue, OnOk, length, map};
-ghost use Rattle.adj_tree.specs.View.{code_of, procedure_of};
-ghost use Rattle.def_names.specs.Numbers.{behind};
+ghost use Rattle.std.specs.Prelude.{◌≡◌, ◌↔◌, ◌<◌, ◌≤◌, ◌^◌, ℕ, List, [], false, All, Contains, IfOk, IsTrue, length, map};
+ghost use Rattle.adj_tree.specs.View.{procedure_of};
 ghost use Rattle.def_flow.specs.Parts as spec;
 ghost use Rattle.def_names.specs.StatementsIn.{statements_in};
 ghost use Rattle.def_flow.specs.Problem.{TakesPart};
@@ -10,15 +9,13 @@ ghost use Rattle.def_flow.specs.Splits.{is_line, split_calls};
 ghost use Rattle.adj_reach.specs.Edges.{flag};
 ghost use Rattle.adj_symbols_writes.specs.Graph.{number_from};
 ghost use Rattle.adj_symbols_writes.specs.Table.{value_of};
+ghost use Rattle.adj_flow.specs.Low.{AreFew};
 ghost use Rattle.adj_flow.specs.Rows.{row_of, rows};
 
-use crate::outline::{Outline, add_list};
 use crate::part::taking_part;
 use crate::row::Part;
 use crate::rows::parts;
 use crate::splits::split_flags;
-use crate::standing::Place;
-use crate::way::{Deed, Point};
 use adj_symbols_writes::table::{Numbers, unit_numbers};
 use adj_tree::{Flags, Memory, NameList, Unit};
 use std::alloc::Global;
@@ -32,40 +29,14 @@ pub struct Flow<'a> {
     pub taking: Flags,
     pub width: usize,
     pub split: Flags,
-}
-
-// Adds the statements of a unit.
-fn add_statements<'a>(outline: &mut Outline<'a>, unit: &'a Unit) -> Result<(), Memory>
-    ensures count { OnOk result (length outline.new.statements.items ≡ behind (length outline.old.statements.items) (code_of unit.now.body)) }
-{
-    let deed = Deed::Passing;
-    add_list(
-        outline,
-        Place::Outermost,
-        Point::At(0),
-        Point::At(0),
-        deed,
-        &unit.body,
-    )?;
-    Ok(())
-}
-
-// How many statements the units have.
-fn count(alloc: Global, units: &[Unit]) -> Result<usize, Memory>
-    ensures count { IfOk result (λ n. n ≡ statements_in 0 (map procedure_of units.now)) }
-{
-    let mut outline = Outline {
-        statements: Vec::new(alloc),
-        ways: Vec::new(alloc),
-    };
-    for unit in units {
-        add_statements(&mut outline, unit)?;
-    }
-    Ok(outline.statements.len())
+    pub ghost few: { length parts.items < 2 ^ 30 },
+    pub ghost narrow: { width < 2 ^ 30 },
 }
 
 // The most variables that a unit has.
 fn width(variables: &[&NameList]) -> usize
+    requires narrow { All (λ vs. length vs < 2 ^ 30) (map (λ b. b.now) variables.now) }
+    ensures low { result < 2 ^ 30 }
     ensures width { All (λ v. length v.now ≤ result) variables.now }
 {
     let mut width = 0;
@@ -76,16 +47,19 @@ fn width(variables: &[&NameList]) -> usize
 }
 
 impl<'a> Flow<'a> {
-    /// The units, whose variables are these, where the unit of the number `head` is the head, and the calls at these lines are to be split.
+    /// The units, which have so many statements and whose variables are these, where the unit of the number `head` is the head, and the calls
+    /// at these lines are to be split.
     pub fn new(
         alloc: Global,
         units: &'a [Unit],
         variables: &[&'a NameList],
+        statements: usize,
         head: usize,
         splits: &[u32],
     ) -> Result<Flow<'a>, Memory>
         requires variables { length variables.now ≡ length units.now }
-        requires room { length units.now + 1 < 2 ^ 64 }
+        requires few { AreFew (map (λ b. b.now) variables.now) (map procedure_of units.now) }
+        requires statements { statements ≡ statements_in 0 (map procedure_of units.now) }
         requires head { head < length units.now }
         ensures rows { IfOk result (λ f. map row_of f.parts.items ≡ rows (map (λ b. b.now) variables.now) (map procedure_of units.now)) }
         ensures numbers { IfOk result (λ f. (x : List ℕ) → value_of x f.numbers ≡ number_from 0 (map procedure_of units.now) x) }
@@ -94,10 +68,9 @@ impl<'a> Flow<'a> {
         ensures width { IfOk result (λ f. All (λ v. length v.now ≤ f.width) variables.now) }
         ensures split { IfOk result (λ f. (n : ℕ) → flag f.split n ≡ split_calls (is_line splits.now) (map procedure_of units.now) n) }
     {
+        let parts = parts(alloc, units, variables, statements)?;
         let numbers = unit_numbers(alloc, units)?;
-        let taking = taking_part(alloc, units, &numbers, head)?;
-        let count = count(alloc, units)?;
-        let parts = parts(alloc, units, variables, count)?;
+        let taking = taking_part(alloc, units, parts.as_slice(), &numbers, head)?;
         let split = split_flags(alloc, units, splits)?;
         Ok(Flow {
             parts,

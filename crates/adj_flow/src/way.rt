@@ -1,11 +1,9 @@
 //! Ways between points.
 
-ghost use Rattle.std.specs.Prelude.{◌≡◌};
-ghost use Rattle.adj_tree.specs.Code.{plain};
-ghost use Rattle.def_flow.specs.Ways.{assigned_on};
-ghost use Rattle.adj_flow.specs.WayView.{deed_of};
+ghost use Rattle.std.specs.Prelude.{◌*◌, ◌<◌, ◌^◌};
+ghost use Rattle.adj_flow.specs.Points.{number_of};
 
-use adj_tree::{Exprs, Name};
+use crate::deed::Deed;
 
 /// A point of a program.
 #[derive(Clone, Copy)]
@@ -18,32 +16,12 @@ pub enum Point {
     At(usize),
 }
 
-/// What is done on a way.
-#[derive(Clone, Copy)]
-pub enum Deed<'a> {
-    Passing,
-    /// The statement of this number assigns the whole variable.
-    Assigning(usize, &'a Name),
-    /// A unit is called with these actuals.
-    Calling(&'a Exprs),
-}
-
-impl Deed<'_> {
-    /// Whether it assigns the whole of this variable.
-    pub fn assigns(self, name: &Name) -> bool
-        ensures is { result ≡ assigned_on (deed_of self.entry) (plain name.now) }
-    {
-        match self {
-            Deed::Assigning(_, other) => other.equals(name),
-            Deed::Passing | Deed::Calling(_) => false,
-        }
-    }
-}
-
-/// A way from a point to a next one.
+/// A way from a point to a next one. Points have numbers below 5 * 2^30.
 #[derive(Clone, Copy)]
 pub struct Way<'a> {
     pub from: Point,
     pub to: Point,
     pub deed: Deed<'a>,
+    pub ghost low: { number_of from < 5 * 2 ^ 30 },
+    pub ghost next_low: { number_of to < 5 * 2 ^ 30 },
 }

@@ -1,5 +1,5 @@
 -- The arcs of ways and the other edges lead between the numbers that all edges join.
-use Rattle.std.proofs.Common.{◌≡◌, ◌⊎◌, inl, inr, ℕ, ◌+◌, ◌*◌, ◌<◌, ◌≤◌, List, [], ◌∷◌, ◌++◌, Bool, true, length, refl, sym, ap, ◌∙◌, subst, arith}
+use Rattle.std.proofs.Common.{◌≡◌, ◌⊎◌, inl, inr, ℕ, ◌+◌, ◌*◌, ◌<◌, ◌≤◌, List, [], ◌++◌, Bool, true, length, refl, sym, ap, subst, arith}
 use Rattle.std.specs.Prelude.{◌↔◌, Contains, Some, not, ◌&&◌, flat_map}
 use Rattle.std.proofs.lemmas.List.Elements.{Contains-append_left, Contains-append_right, Contains-append_cases}
 use Rattle.adj_tree.specs.Code.{Var}
@@ -18,7 +18,7 @@ use Rattle.adj_reach_rows.specs.declared.arc.Arc.{Arc}
 use Rattle.adj_reach_rows.specs.declared.bits.Rows.{Rows}
 use Rattle.adj_live.specs.Listed.{Here, entry_edges, way_edges, statement_edges, unit_edges, all_edges, way_arc, row_arcs, other_edges, all_arcs, all_others}
 use Rattle.adj_live.specs.View.{here_in}
-use Rattle.adj_live.specs.declared.site.Known.{Known}
+use Rattle.adj_live.specs.declared.known.Known.{Known}
 
 module _ (k : Known) (rs : List Row) (taking : List Bool) (rows : Rows) (narrow : (r : Row) → Contains rs r → length (vars_of r) ≤ k.width) (wide : k.width + 2 < 64 * rows.words) (holds : HoldPlaces rows rs) where
   abbrev here : Row → Here

@@ -1,8 +1,7 @@
 -- the lemmas of the crate
 pub mod Facts
-pub mod Known
+pub mod KnownLists
 pub mod Naming
-pub mod Picking
 pub mod Using
 pub mod Imaged
 pub mod Rowed

@@ -1,5 +1,5 @@
 -- The lists of the rows of units that take part are those of the units, by what the flags of the activity tell.
-use Rattle.std.proofs.Common.{◌≡◌, ℕ, ◌*◌, List, [], ◌∷◌, ◌++◌, Bool, refl, sym, ap}
+use Rattle.std.proofs.Common.{◌≡◌, ℕ, List, [], ◌∷◌, ◌++◌, Bool, refl, sym, ap}
 use Rattle.std.specs.Prelude.{Contains, Option, ◌&&◌, flat_map, slice_index_or}
 use Rattle.adj_tree.specs.Code.{Var, Act, assign, choose, loop, during, call, runtime}
 use Rattle.adj_tree.specs.declared.marks.Activity as flags
@@ -56,7 +56,7 @@ module _ (k : Problem) (vss : List (List (List ℕ))) (taking : List Bool) (w : 
     own_same : (s : Standing) → Contains (statements_of g) s → (d : Act) → own_nodes (seen (row_in vss g)) s.number d ≡ own_nodes (here g) s.number d
     own_same s c (assign x subs e) =
         let on : (λ (v : Var). told_at b.varied w (row_in vss g) (point_before s.number) v && told_at b.shadowed w (row_in vss g) g.number v) ≡ (λ (v : Var). told b.varied o w (point_before s.number) v && told_of b.shadowed o w g.number v) = (λ i v. is_varied s c v i && has_shadow v i) in
-        ap (λ (z : Vars). list_if (flag b.adjointed (2 * s.number)) (needed_nodes (here g) (point_before s.number) outermost (adjoint_reads_in z e ++ vars_in_terms subs))) on
+        ap (λ (z : Vars). list_if (flag b.adjointed s.number) (needed_nodes (here g) (point_before s.number) outermost (adjoint_reads_in z e ++ vars_in_terms subs))) on
     own_same s c (choose q d e) = refl
     own_same s c (loop x first last by body m) =
         let n = has_shadow x in
@@ -69,7 +69,7 @@ module _ (k : Problem) (vss : List (List (List ℕ))) (taking : List Bool) (w : 
     unit_same : unit_nodes (seen (row_in vss g)) ≡ unit_nodes (here g)
     unit_same =
         ap (λ z. extent_nodes (here g) ++ z)
-        (flat_same (statement_nodes (seen (row_in vss g))) (statement_nodes (here g)) (statements_of g) (λ s c. ap (λ z. z ++ list_if (flag b.adjointed (2 * s.number)) (held_nodes (here g) s)) (own_same s c s.act)))
+        (flat_same (statement_nodes (seen (row_in vss g))) (statement_nodes (here g)) (statements_of g) (λ s c. ap (λ z. z ++ list_if (flag b.adjointed s.number) (held_nodes (here g) s)) (own_same s c s.act)))
 
   pub nodes_same : all_nodes seen (rows vss k.units) taking ≡ flat_map (λ g. unit_nodes (here g)) o.parts
   nodes_same = scoped k vss taking (λ r. unit_nodes (seen r)) (λ g. unit_nodes (here g)) (λ g c. unit_same g ((y.parts g).0 c))

@@ -15,7 +15,7 @@ use Rattle.adj_flow.proofs.Images.{Images, listed_along}
 use Rattle.adj_flow.proofs.Telling.{point_found, point_finds, number_found, number_finds}
 use Rattle.adj_live.specs.Numbers.{kept_at}
 use Rattle.adj_live.proofs.Facts.{HasFact, HasStep, one_fact, own_fact, known_has, has_known}
-use Rattle.adj_live.proofs.Known.{known_lists}
+use Rattle.adj_live.proofs.KnownLists.{known_lists}
 
 module _ (k : Problem) (o : Scope) (y : Covers k o) (w : ℕ) (wide : IsWide k o w) (a : Activity) (ss : List ℕ) (es : List (ℕ × ℕ)) (starts : Images (HasFact k o w) (live_starts k a o) ss) (steps : Images (HasStep k o w) (live_steps k a o) es) (facts kepts entries : List Bool)
     (exact : (m : ℕ) → IsTrue (flag facts m) ↔ ReachedFrom es ss m) (kept_by : (n : ℕ) → flag kepts n ≡ flag facts (n * (w + 2) + w)) (entry_by : (n : ℕ) → flag entries n ≡ flag facts (n * (w + 2) + (w + 1))) where

@@ -1,5 +1,5 @@
 -- What the code goes over, as clauses see it.
-use Rattle.std.specs.Prelude.{ℕ, ◌*◌, map}
+use Rattle.std.specs.Prelude.{ℕ, map}
 use Rattle.adj_tree.specs.declared.marks.Activity as flags
 use Rattle.def_flow.specs.Activity.{Activity}
 use Rattle.adj_reach.specs.Edges.{flag}
@@ -8,12 +8,12 @@ use Rattle.adj_flow.specs.Rows.{Row, row_of}
 use Rattle.adj_flow.specs.NodeView.{found_at, told_at}
 use Rattle.adj_flow.specs.Sides.{row_by}
 use Rattle.adj_live.specs.Listed.{Here}
-use Rattle.adj_live.specs.declared.site.Known.{Known}
-use Rattle.adj_live.specs.declared.site.Site.{Site}
+use Rattle.adj_live.specs.declared.known.Known.{Known}
+use Rattle.adj_live.specs.declared.known.Site.{Site}
 
 -- the activity of a unit, by flags
 abbrev pub activity_in : flags.Activity → ℕ → Row → Activity
-activity_in a w r = record { varied = told_at a.varied w r; useful = told_at a.useful w r; adjointed = λ i. flag a.adjointed (2 * i); shadowed = told_at a.shadowed w r }
+activity_in a w r = record { varied = told_at a.varied w r; useful = told_at a.useful w r; adjointed = flag a.adjointed; shadowed = told_at a.shadowed w r }
 
 -- a unit with what is known of the program
 abbrev pub here_in : Known → Row → Here

@@ -1,11 +1,12 @@
 //! Where the rules begin: the facts that hold by the activity alone.
 
-ghost use Rattle.std.specs.Prelude.{◌≡◌, ◌++◌, ◌∷◌, [], IfOk, OnOk, map, flat_map};
+ghost use Rattle.std.specs.Prelude.{◌≡◌, ◌++◌, ◌∷◌, ◌<◌, ◌^◌, ◌*◌, [], IfOk, OnOk, map, flat_map};
 ghost use Rattle.adj_tree.specs.Code.{plain, assign};
 ghost use Rattle.adj_tree.specs.View.{term_of, terms_of, act_of};
 ghost use Rattle.def_names.specs.VariableLists.{list_if};
 ghost use Rattle.def_flow.specs.Rules.{list_of, holders};
 ghost use Rattle.adj_symbols_writes.specs.View.{vars_seen};
+ghost use Rattle.adj_flow.specs.Low.{IsLow};
 ghost use Rattle.adj_flow.specs.Rows.{row_of};
 ghost use Rattle.adj_flow.specs.NodeView.{vars_of};
 ghost use Rattle.adj_flow.specs.View.{place_of, standing_of};
@@ -14,9 +15,10 @@ ghost use Rattle.adj_live.specs.Listed.{needed_here, needed_nodes, own_nodes, tu
 ghost use Rattle.adj_live.specs.View.{here_at, here_in};
 
 use crate::extents::{extents, is_among};
+use crate::known::{Known, Site};
 use crate::passing::add_passed_by;
 use crate::reads::{add_reads, resets};
-use crate::site::{Known, Site, add_number, kept, wanted};
+use crate::site::{add_number, kept, wanted};
 use adj_flow::{Flow, Place, Point, Standing, number};
 use adj_reach::flag_at;
 use adj_symbols_writes::variables::add_terms;
@@ -31,10 +33,11 @@ fn add_variable(
     name: &Name,
     is_wanted: bool,
 ) -> Result<(), Memory>
+    requires point { point < 5 * 2 ^ 30 }
     ensures added { OnOk result (nodes.new.items ≡ nodes.old.items ++ list_if is_wanted (list_of (needed_here (here_at site.entry) point (plain name.now)))) }
 {
     if is_wanted {
-        add_number(nodes, site.needed(point, name)?)?;
+        add_number(nodes, site.needed(point, name))?;
     }
     Ok(())
 }
@@ -47,6 +50,7 @@ fn add_needed(
     place: Place<'_>,
     names: &[&Name],
 ) -> Result<(), Memory>
+    requires point { point < 5 * 2 ^ 30 }
     ensures added { OnOk result (nodes.new.items ≡ nodes.old.items ++ needed_nodes (here_at site.entry) point (place_of place.entry) (vars_seen names.now)) }
 {
     for name in names {
@@ -65,13 +69,14 @@ fn add_assignment(
     target: &Target,
     right: &Expr,
 ) -> Result<(), Memory>
+    requires statement { statement < 2 ^ 30 }
     ensures added { OnOk result (nodes.new.items ≡ nodes.old.items ++ own_nodes (here_at site.entry) statement (assign (plain target.now.name) (terms_of target.now.subs) (term_of right.now))) }
 {
-    if site.is_adjointed(statement)? {
+    if site.is_adjointed(statement) {
         let mut names = Vec::new(alloc);
         add_reads(site, statement, right, &mut names)?;
         add_terms(&target.subs, &mut names)?;
-        let before = number(Point::Before(statement))?;
+        let before = number(Point::Before(statement));
         add_needed(nodes, site, before, Place::Outermost, names.as_slice())?;
     }
     Ok(())
@@ -84,10 +89,12 @@ fn add_kept(
     statement: usize,
     is_kept: bool,
 ) -> Result<(), Memory>
+    requires width { width < 2 ^ 30 }
+    requires statement { statement < 2 ^ 30 }
     ensures added { OnOk result (nodes.new.items ≡ nodes.old.items ++ list_if is_kept (kept_at width statement ∷ [])) }
 {
     if is_kept {
-        nodes.push(kept(width, statement)?)?;
+        nodes.push(kept(width, statement))?;
     }
     Ok(())
 }
@@ -100,12 +107,13 @@ fn add_own(
     statement: usize,
     act: &Act,
 ) -> Result<(), Memory>
+    requires statement { statement < 2 ^ 30 }
     ensures added { OnOk result (nodes.new.items ≡ nodes.old.items ++ own_nodes (here_at site.entry) statement (act_of act.now)) }
 {
     match act {
         Act::Assign(target, right) => add_assignment(alloc, nodes, site, statement, target, right),
         Act::Loop(x, _, _, _, _, _) => {
-            let is_kept = resets(site, statement, x)?;
+            let is_kept = resets(site, statement, x);
             add_kept(nodes, site.known.width, statement, is_kept)
         }
         Act::If(_, _, _) | Act::While(_, _) | Act::Call(_, _) | Act::Run(_) => Ok(()),
@@ -114,12 +122,14 @@ fn add_own(
 
 // Adds that the statement is kept that holds what stands at a place.
 fn add_holder(nodes: &mut Vec<usize>, width: usize, place: Place<'_>) -> Result<(), Memory>
+    requires width { width < 2 ^ 30 }
+    requires low { IsLow place }
     ensures added { OnOk result (nodes.new.items ≡ nodes.old.items ++ map (kept_at width) (holders (place_of place.entry))) }
 {
     match place {
         Place::Outermost => Ok(()),
         Place::PartOf(holder) | Place::TurnOf(holder, _) => {
-            nodes.push(kept(width, holder)?)?;
+            nodes.push(kept(width, holder))?;
             Ok(())
         }
     }
@@ -133,13 +143,14 @@ fn add_turned(
     place: Place<'_>,
     act: &Act,
 ) -> Result<(), Memory>
+    requires low { IsLow place }
     ensures added { OnOk result (nodes.new.items ≡ nodes.old.items ++ turned_nodes (here_at site.entry) (place_of place.entry) (act_of act.now)) }
 {
     match place {
         Place::TurnOf(holder, _) => {
             let mut names = Vec::new(alloc);
             add_passed_by(site, act, &mut names)?;
-            let before = number(Point::Before(holder))?;
+            let before = number(Point::Before(holder));
             add_needed(nodes, site, before, place, names.as_slice())
         }
         Place::Outermost | Place::PartOf(_) => Ok(()),
@@ -155,7 +166,7 @@ fn add_held(
 ) -> Result<(), Memory>
     ensures added { OnOk result (nodes.new.items ≡ nodes.old.items ++ list_if ((here_at site.entry).activity.adjointed (standing_of standing.now).number) (held_nodes (here_at site.entry) (standing_of standing.now))) }
 {
-    if site.is_adjointed(standing.number)? {
+    if site.is_adjointed(standing.number) {
         add_kept(
             nodes,
             site.known.width,

@@ -1,6 +1,6 @@
 //! The edges of calls.
 
-ghost use Rattle.std.specs.Prelude.{◌≡◌, ◌++◌, ◌&&◌, not, true, OnOk, map, flat_map};
+ghost use Rattle.std.specs.Prelude.{◌≡◌, ◌++◌, ◌&&◌, ◌<◌, ◌^◌, ◌*◌, not, true, OnOk, map, flat_map};
 ghost use Rattle.adj_tree.specs.Code.{plain};
 ghost use Rattle.adj_tree.specs.View.{act_of};
 ghost use Rattle.def_names.specs.Numbering.{point_before};
@@ -14,7 +14,8 @@ ghost use Rattle.adj_live.specs.Numbers.{wanted_at};
 ghost use Rattle.adj_live.specs.Listed.{needed_here, member_edges, call_edges};
 ghost use Rattle.adj_live.specs.View.{here_at};
 
-use crate::site::{Site, wanted};
+use crate::known::Site;
+use crate::site::wanted;
 use adj_flow::{Part, Point, Standing, add_link, number, pairs};
 use adj_tree::{Act, Memory, Name};
 use std::alloc::Global;
@@ -27,11 +28,12 @@ fn add_actual(
     point: usize,
     pair: (&Name, &Name),
 ) -> Result<(), Memory>
+    requires point { point < 5 * 2 ^ 30 }
     ensures added { OnOk result (edges.new.items ≡ edges.old.items ++ linked (wanted_at (here_at site.entry).width (vars_of (row_of called.now)) (row_of called.now).part.number pair.entry.0.now) (needed_here (here_at site.entry) point (plain pair.entry.1.now))) }
 {
     let (dummy, actual) = pair;
     let from = wanted(site.known.width, called, dummy)?;
-    let to = site.needed(point, actual)?;
+    let to = site.needed(point, actual);
     add_link(edges, from, to)
 }
 
@@ -45,10 +47,10 @@ fn add_member(
 ) -> Result<(), Memory>
     ensures added { OnOk result (edges.new.items ≡ edges.old.items ++ member_edges (here_at site.entry) (standing_of standing.now) (row_of called.now) pair.entry.0.now (plain pair.entry.1.now)) }
 {
-    let is_member = site.is_adjointed(standing.number)? && !standing.place.turns(pair.1);
+    let is_member = site.is_adjointed(standing.number) && !standing.place.turns(pair.1);
     if is_member {
         let at = standing.place.site(true, standing.number);
-        let before = number(Point::Before(at))?;
+        let before = number(Point::Before(at));
         add_actual(edges, site, called, before, pair)?;
     }
     Ok(())

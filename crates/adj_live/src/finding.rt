@@ -14,22 +14,22 @@ ghost use Rattle.adj_live.specs.View.{here_in};
 ghost use Rattle.adj_live.specs.Asked.{TellsLive};
 
 use crate::begins::nodes;
-use crate::picked::picked;
-use crate::site::{Known, stride};
+use crate::known::Known;
+use crate::site::stride;
 use crate::steps::{arcs, edges};
 use adj_flow::sides::Sides;
-use adj_flow::{Flow, Units, variable_rows};
+use adj_flow::{Flow, Units, picked, variable_rows};
 use adj_reach_rows::reached_by_rows;
-use adj_tree::{Activity, Flags, Head, Kept, Memory};
+use adj_tree::{Activity, BitFlags, Head, Kept, Memory};
 use std::alloc::Global;
 
 // The facts that hold, by number.
-fn facts(alloc: Global, flow: &Flow<'_>, known: Known<'_, '_>) -> Result<Flags, Memory>
+fn facts(alloc: Global, flow: &Flow<'_>, known: Known<'_, '_>) -> Result<BitFlags, Memory>
     requires flow { AreNumbered flow.now flow.now.width }
     requires width { known.width ≡ flow.now.width }
     ensures facts { IfOk result (λ f. (m : ℕ) → IsTrue (flag f m) ↔ ReachedFrom (all_edges (here_in known.entry) (map row_of flow.now.parts.items) flow.now.taking) (all_nodes (here_in known.entry) (map row_of flow.now.parts.items) flow.now.taking) m) }
 {
-    let width = stride(flow.width)?;
+    let width = stride(flow.width);
     let rows = variable_rows(alloc, flow, width)?;
     let arcs = arcs(alloc, flow, known)?;
     let edges = edges(alloc, flow, known)?;
@@ -70,8 +70,8 @@ pub fn live(
         split: flow.split.as_slice(),
     };
     let facts = facts(alloc, flow, known)?;
-    let stride = stride(flow.width)?;
-    let kept = picked(alloc, facts.as_slice(), stride, flow.width)?;
-    let entry = picked(alloc, facts.as_slice(), stride, stride - 1)?;
+    let stride = stride(flow.width);
+    let kept = picked(alloc, &facts, stride, flow.width)?;
+    let entry = picked(alloc, &facts, stride, stride - 1)?;
     Ok(Kept { kept, entry })
 }

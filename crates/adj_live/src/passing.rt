@@ -6,7 +6,7 @@ ghost use Rattle.adj_live.specs.Passed.{used_by, handed_by, passed_by};
 ghost use Rattle.adj_live.specs.View.{here_at};
 ghost use Rattle.adj_symbols_writes.specs.View.{vars_seen};
 
-use crate::site::Site;
+use crate::known::Site;
 use adj_flow::sides::row;
 use adj_flow::variables::add_passed;
 use adj_symbols_writes::variables::{

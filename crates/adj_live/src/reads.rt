@@ -1,6 +1,6 @@
 //! What is varied and has a shadow, and what the adjoint of an assignment reads.
 
-ghost use Rattle.std.specs.Prelude.{◌≡◌, ◌++◌, IfOk, OnOk};
+ghost use Rattle.std.specs.Prelude.{◌≡◌, ◌++◌, ◌<◌, ◌^◌, OnOk};
 ghost use Rattle.adj_tree.specs.Code.{plain};
 ghost use Rattle.adj_tree.specs.View.{term_of};
 ghost use Rattle.def_flow.specs.Activity.{resets};
@@ -9,16 +9,17 @@ ghost use Rattle.adj_live.specs.Listed.{active_here};
 ghost use Rattle.adj_live.specs.View.{here_at};
 ghost use Rattle.adj_symbols_writes.specs.View.{vars_seen};
 
-use crate::site::Site;
+use crate::known::Site;
 use adj_flow::Occurrences;
 use adj_tree::{Expr, Memory, Name};
 
 /// Whether a DO resets the shadow of its variable.
-pub(crate) fn resets(site: Site<'_, '_>, statement: usize, name: &Name) -> Result<bool, Memory>
-    ensures resets { IfOk result (λ b. b ≡ resets (here_at site.entry).activity (here_at site.entry).row.part.number statement (plain name.now)) }
+pub(crate) fn resets(site: Site<'_, '_>, statement: usize, name: &Name) -> bool
+    requires statement { statement < 2 ^ 30 }
+    ensures resets { result ≡ resets (here_at site.entry).activity (here_at site.entry).row.part.number statement (plain name.now) }
 {
     let occurrences = Occurrences {
-        varied: site.known.activity.varied.as_slice(),
+        varied: &site.known.activity.varied,
         shadowed: site.known.activity.shadowed.as_slice(),
         width: site.known.width,
         part: site.part,
@@ -34,10 +35,11 @@ pub(crate) fn add_reads<'a>(
     term: &'a Expr,
     out: &mut Vec<&'a Name>,
 ) -> Result<(), Memory>
+    requires statement { statement < 2 ^ 30 }
     ensures added { OnOk result (vars_seen out.new.items ≡ vars_seen out.old.items ++ adjoint_reads_in (active_here (here_at site.entry) statement) (term_of term.now)) }
 {
     let occurrences = Occurrences {
-        varied: site.known.activity.varied.as_slice(),
+        varied: &site.known.activity.varied,
         shadowed: site.known.activity.shadowed.as_slice(),
         width: site.known.width,
         part: site.part,

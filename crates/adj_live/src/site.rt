@@ -1,6 +1,6 @@
-//! A unit with what is known of the program, and the numbers of facts about it.
+//! The numbers of facts about a unit.
 
-ghost use Rattle.std.specs.Prelude.{◌≡◌, ◌+◌, ◌*◌, ◌++◌, IfOk, OnOk};
+ghost use Rattle.std.specs.Prelude.{◌≡◌, ◌+◌, ◌*◌, ◌++◌, ◌<◌, ◌^◌, IfOk, OnOk};
 ghost use Rattle.adj_tree.specs.Code.{plain};
 ghost use Rattle.def_flow.specs.Rules.{list_of};
 ghost use Rattle.adj_reach.specs.Edges.{flag};
@@ -10,53 +10,32 @@ ghost use Rattle.adj_live.specs.Numbers.{kept_at, wanted_at};
 ghost use Rattle.adj_live.specs.Listed.{needed_here};
 ghost use Rattle.adj_live.specs.View.{here_at};
 
-use adj_flow::sides::Sides;
-use adj_flow::{End, Part, Units};
+use crate::known::Site;
+use adj_flow::{End, Part};
 use adj_reach::flag_at;
-use adj_tree::{Activity, Memory, Name};
-
-/// The units of a program, how many variables one has at most, which of their dummies they read and write, the activity, and the flags of
-/// the calls that are to be split.
-#[derive(Clone, Copy)]
-pub(crate) struct Known<'p, 'a> {
-    pub units: Units<'p, 'a>,
-    pub width: usize,
-    pub sides: Sides<'p>,
-    pub activity: &'p Activity,
-    pub split: &'p [bool],
-}
-
-/// A unit of them.
-#[derive(Clone, Copy)]
-pub(crate) struct Site<'p, 'a> {
-    pub known: Known<'p, 'a>,
-    pub part: &'p Part<'a>,
-}
+use adj_tree::{Memory, Name};
 
 /// How many numbers there are at each point and for each statement.
-pub(crate) fn stride(width: usize) -> Result<usize, Memory>
-    ensures stride { IfOk result (λ n. n ≡ width + 2) }
+pub(crate) fn stride(width: usize) -> usize
+    requires width { width < 2 ^ 30 }
+    ensures stride { result ≡ width + 2 }
 {
-    width.checked_add(2).ok_or(Memory)
+    width + 2
 }
 
-// The number in a row of numbers behind so many such rows.
-fn number(row: usize, width: usize, place: usize) -> Result<usize, Memory>
-    ensures number { IfOk result (λ n. n ≡ row * (width + 2) + place) }
+/// The number of a statement that is kept.
+pub(crate) fn kept(width: usize, statement: usize) -> usize
+    requires width { width < 2 ^ 30 }
+    requires statement { statement < 2 ^ 30 }
+    ensures number { result ≡ kept_at width statement }
 {
-    let first = row.checked_mul(stride(width)?).ok_or(Memory)?;
-    first.checked_add(place).ok_or(Memory)
+    statement * stride(width) + width
 }
 
-/// The number of a statement that is kept. An error means that numbers don't reach so far.
-pub(crate) fn kept(width: usize, statement: usize) -> Result<usize, Memory>
-    ensures number { IfOk result (λ n. n ≡ kept_at width statement) }
-{
-    number(statement, width, width)
-}
-
-/// The number of a dummy of a unit that is wanted.
+/// The number of a dummy of a unit that is wanted: a row for each of so many variables. An error means that numbers don't reach so far,
+/// since there are more than the memory has room for.
 pub(crate) fn wanted(width: usize, part: &Part<'_>, name: &Name) -> Result<Option<usize>, Memory>
+    requires width { width < 2 ^ 30 }
     ensures number { IfOk result (λ n. n ≡ wanted_at width (vars_of (row_of part.now)) (row_of part.now).part.number name.now) }
 {
     let end = End {
@@ -64,34 +43,35 @@ pub(crate) fn wanted(width: usize, part: &Part<'_>, name: &Name) -> Result<Optio
         point: part.number,
         name,
     };
-    match end.node(width)? {
+    match end.node(width) {
         None => Ok(None),
         Some(node) => {
-            let place = width.checked_add(1).ok_or(Memory)?;
-            Ok(Some(number(node, width, place)?))
+            let row = node.checked_mul(stride(width)).ok_or(Memory)?;
+            Ok(Some(row.checked_add(width + 1).ok_or(Memory)?))
         }
     }
 }
 
 impl Site<'_, '_> {
     /// The number of a variable that is needed at a point.
-    pub(crate) fn needed(self, point: usize, name: &Name) -> Result<Option<usize>, Memory>
-        ensures number { IfOk result (λ n. n ≡ needed_here (here_at self.entry) point (plain name.now)) }
+    pub(crate) fn needed(self, point: usize, name: &Name) -> Option<usize>
+        requires point { point < 5 * 2 ^ 30 }
+        ensures number { result ≡ needed_here (here_at self.entry) point (plain name.now) }
     {
         let end = End {
             part: self.part,
             point,
             name,
         };
-        end.node(stride(self.known.width)?)
+        end.node(stride(self.known.width))
     }
 
     /// Whether a statement has an adjoint.
-    pub(crate) fn is_adjointed(self, statement: usize) -> Result<bool, Memory>
-        ensures is { IfOk result (λ b. b ≡ (here_at self.entry).activity.adjointed statement) }
+    pub(crate) fn is_adjointed(self, statement: usize) -> bool
+        requires statement { statement < 2 ^ 30 }
+        ensures is { result ≡ (here_at self.entry).activity.adjointed statement }
     {
-        let even = statement.checked_mul(2).ok_or(Memory)?;
-        Ok(flag_at(self.known.activity.adjointed.as_slice(), even))
+        flag_at(self.known.activity.adjointed.as_slice(), statement)
     }
 
     /// Whether a statement is a call that is to be split, if it is adjointed.

@@ -1,12 +1,13 @@
 //! The steps of the rules, as edges between facts, and as arcs that carry the facts about all variables of a unit.
 
-ghost use Rattle.std.specs.Prelude.{◌≡◌, ◌++◌, Some, IfOk, OnOk, map, flat_map};
+ghost use Rattle.std.specs.Prelude.{◌≡◌, ◌++◌, ◌<◌, ◌^◌, ◌*◌, Some, IfOk, OnOk, map, flat_map};
 ghost use Rattle.adj_tree.specs.Code.{plain};
 ghost use Rattle.adj_tree.specs.View.{act_of};
 ghost use Rattle.def_flow.specs.Rules.{holders};
 ghost use Rattle.def_flow.specs.Uses.{use_point};
 ghost use Rattle.def_names.specs.VariableLists.{list_if};
 ghost use Rattle.adj_symbols_writes.specs.View.{vars_seen};
+ghost use Rattle.adj_flow.specs.Low.{IsLow};
 ghost use Rattle.adj_flow.specs.Rows.{row_of};
 ghost use Rattle.adj_flow.specs.NodeView.{vars_of};
 ghost use Rattle.adj_flow.specs.Nodes.{linked};
@@ -17,8 +18,9 @@ ghost use Rattle.adj_live.specs.Listed.{needed_here, entry_edges, used_edges, as
 ghost use Rattle.adj_live.specs.View.{here_at, here_in};
 
 use crate::calls::add_call;
+use crate::known::{Known, Site};
 use crate::passing::{add_handed_by, add_used_by};
-use crate::site::{Known, Site, kept, wanted};
+use crate::site::{kept, wanted};
 use adj_flow::{Flow, Place, Point, Standing, Way, add_link, assigned_place, number};
 use adj_reach::flag_at;
 use adj_reach_rows::Arc;
@@ -33,10 +35,11 @@ fn add_from(
     point: usize,
     names: &[&Name],
 ) -> Result<(), Memory>
+    requires point { point < 5 * 2 ^ 30 }
     ensures added { OnOk result (edges.new.items ≡ edges.old.items ++ flat_map (λ v. linked (Some from) (needed_here (here_at site.entry) point v)) (vars_seen names.now)) }
 {
     for name in names {
-        let to = site.needed(point, name)?;
+        let to = site.needed(point, name);
         add_link(edges, Some(from), to)?;
     }
     Ok(())
@@ -50,10 +53,11 @@ fn add_to(
     names: &[&Name],
     to: usize,
 ) -> Result<(), Memory>
+    requires point { point < 5 * 2 ^ 30 }
     ensures added { OnOk result (edges.new.items ≡ edges.old.items ++ flat_map (λ v. linked (needed_here (here_at site.entry) point v) (Some to)) (vars_seen names.now)) }
 {
     for name in names {
-        let from = site.needed(point, name)?;
+        let from = site.needed(point, name);
         add_link(edges, from, Some(to))?;
     }
     Ok(())
@@ -61,6 +65,8 @@ fn add_to(
 
 // The point at which a statement uses what it does.
 fn use_point(statement: usize, act: &Act) -> Point
+    requires statement { statement < 2 ^ 30 }
+    ensures low { number_of result < 5 * 2 ^ 30 }
     ensures is { number_of result ≡ use_point statement (act_of act.now) }
 {
     match act {
@@ -81,12 +87,13 @@ fn add_used(
     statement: usize,
     act: &Act,
 ) -> Result<(), Memory>
+    requires statement { statement < 2 ^ 30 }
     ensures added { OnOk result (edges.new.items ≡ edges.old.items ++ used_edges (here_at site.entry) statement (act_of act.now)) }
 {
     let mut names = Vec::new(alloc);
     add_used_by(site, act, &mut names)?;
-    let from = kept(site.known.width, statement)?;
-    let point = number(use_point(statement, act))?;
+    let from = kept(site.known.width, statement);
+    let point = number(use_point(statement, act));
     add_from(edges, site, from, point, names.as_slice())
 }
 
@@ -98,10 +105,12 @@ fn add_target(
     name: &Name,
     statement: usize,
 ) -> Result<(), Memory>
+    requires point { number_of point < 5 * 2 ^ 30 }
+    requires statement { statement < 2 ^ 30 }
     ensures added { OnOk result (edges.new.items ≡ edges.old.items ++ linked (needed_here (here_at site.entry) (number_of point) (plain name.now)) (Some (kept_at site.entry.known.width statement))) }
 {
-    let from = site.needed(number(point)?, name)?;
-    let to = kept(site.known.width, statement)?;
+    let from = site.needed(number(point), name);
+    let to = kept(site.known.width, statement);
     add_link(edges, from, Some(to))
 }
 
@@ -112,6 +121,7 @@ fn add_assigned(
     statement: usize,
     act: &Act,
 ) -> Result<(), Memory>
+    requires statement { statement < 2 ^ 30 }
     ensures added { OnOk result (edges.new.items ≡ edges.old.items ++ assigned_edges (here_at site.entry) statement (act_of act.now)) }
 {
     match act {
@@ -134,13 +144,16 @@ fn add_held(
     statement: usize,
     place: Place<'_>,
 ) -> Result<(), Memory>
+    requires width { width < 2 ^ 30 }
+    requires statement { statement < 2 ^ 30 }
+    requires low { IsLow place }
     ensures added { OnOk result (edges.new.items ≡ edges.old.items ++ map (λ n. (kept_at width statement, kept_at width n)) (holders (place_of place.entry))) }
 {
     match place {
         Place::Outermost => Ok(()),
         Place::PartOf(holder) | Place::TurnOf(holder, _) => {
-            let from = kept(width, statement)?;
-            let to = kept(width, holder)?;
+            let from = kept(width, statement);
+            let to = kept(width, holder);
             edges.push((from, to))?;
             Ok(())
         }
@@ -158,10 +171,10 @@ fn add_handed(
 {
     let mut names = Vec::new(alloc);
     add_handed_by(site, standing.act, &mut names)?;
-    let is_adjointed = site.is_adjointed(standing.number)?;
+    let is_adjointed = site.is_adjointed(standing.number);
     let at = standing.place.site(is_adjointed, standing.number);
-    let point = number(Point::After(at))?;
-    let to = kept(site.known.width, standing.number)?;
+    let point = number(Point::After(at));
+    let to = kept(site.known.width, standing.number);
     add_to(edges, site, point, names.as_slice(), to)
 }
 
@@ -200,8 +213,8 @@ fn add_statements(
 fn add_way(arcs: &mut Vec<Arc>, site: Site<'_, '_>, way: Way<'_>) -> Result<(), Memory>
     ensures added { OnOk result (arcs.new.items ≡ arcs.old.items ++ way_arc (here_at site.entry) (way_of way.entry)) }
 {
-    let from = number(way.to)?;
-    let to = number(way.from)?;
+    let from = number(way.to);
+    let to = number(way.from);
     let left = assigned_place(site.part, way.deed);
     let arc = Arc {
         from,
@@ -255,7 +268,7 @@ fn add_dummy(
 ) -> Result<(), Memory>
     ensures added { OnOk result (edges.new.items ≡ edges.old.items ++ linked (needed_here (here_at site.entry) (row_of site.entry.part.now).part.entry (plain dummy.now)) (wanted_at site.entry.known.width (vars_of (row_of site.entry.part.now)) (row_of site.entry.part.now).part.number dummy.now)) }
 {
-    let from = site.needed(site.part.entry, dummy)?;
+    let from = site.needed(site.part.entry, dummy);
     let to = wanted(site.known.width, site.part, dummy)?;
     add_link(edges, from, to)
 }

@@ -1,3 +1,5 @@
 -- the lemmas of the crate
 pub mod Rows
 pub mod Saying
+mod Few
+mod Counting

@@ -2,19 +2,17 @@
 use Rattle.std.proofs.Common.{◌≡◌, ◌⊎◌, inl, inr, ℕ, List, [], ◌∷◌, ◌++◌, Bool, true, false, map, refl, sym, ap, ◌∙◌, subst}
 use Rattle.std.specs.Prelude.{◌↔◌, ◌||◌, Contains, Option, Some, None, slice_index_or}
 use Rattle.std.specs.List.{flat_map, list_any}
-use Rattle.adj_tree.specs.Code.{Var, plain, Procedure}
+use Rattle.adj_tree.specs.Code.{Var, plain}
 use Rattle.adj_tree.specs.declared.marks.Head.{Head}
 use Rattle.adj_tree.specs.declared.marks.Marks as flags
-use Rattle.def_names.specs.Numbers.{Vars}
 use Rattle.def_names.specs.Numbering.{point_before}
 use Rattle.def_sweep.specs.Facts.{In}
 use Rattle.def_names.proofs.Variables.{or_right}
 use Rattle.def_flow.specs.Parts.{Part, parts}
 use Rattle.def_flow.specs.Standing.{Standing}
-use Rattle.def_flow.specs.Problem.{Problem, TakesPart, statements_of}
+use Rattle.def_flow.specs.Problem.{TakesPart, statements_of}
 use Rattle.def_flow.specs.Rules.{Scope, Covers}
 use Rattle.adj_reach.proofs.Members.{is_among, is_none, filter_has, filter_only}
-use Rattle.def_flow.proofs.Numbers.{part_is_there}
 use Rattle.def_flow.proofs.OwnPoints.{own_before}
 use Rattle.adj_reach.specs.Edges.{flag}
 use Rattle.adj_flow.specs.Asked.{units_of, variables_of, problem_of, IsFlow}

@@ -1,5 +1,5 @@
 -- What flags say of statements.
-use Rattle.std.specs.Prelude.{ℕ, ◌*◌, List, [], map, Bool, slice_index_or}
+use Rattle.std.specs.Prelude.{ℕ, List, [], map, Bool, slice_index_or}
 use Rattle.std.specs.List.{list_any}
 use Rattle.adj_tree.specs.Code.{Var, plain}
 use Rattle.adj_tree.specs.declared.marks.Marks as flags
@@ -20,7 +20,7 @@ is_saved_in flags w vs i = list_any (λ v. flag_at flags (node_in w vs (i, v))) 
 
 -- what the marks say of the i-th statement, which stands in a unit with these variables
 abbrev pub said_by : flags.Marks → ℕ → List Var → ℕ → Said
-said_by t w vs i = record { kept = flag t.kept.kept i; adjointed = flag t.activity.adjointed (2 * i); saves = is_saved_in t.saved.saved w vs i }
+said_by t w vs i = record { kept = flag t.kept.kept i; adjointed = flag t.activity.adjointed i; saves = is_saved_in t.saved.saved w vs i }
 
 -- what they say of that of the unit of a number
 abbrev pub said_in : Flow → flags.Marks → ℕ → ℕ → Said

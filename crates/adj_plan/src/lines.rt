@@ -1,6 +1,6 @@
 //! The lines of a plan: a statement each, with its marks.
 
-ghost use Rattle.std.specs.Prelude.{◌≡◌, ◌++◌, ◌∷◌, [], IfOk, OnOk, flat_map, map};
+ghost use Rattle.std.specs.Prelude.{◌≡◌, ◌++◌, ◌∷◌, ◌<◌, ◌^◌, ◌+◌, [], IfOk, OnOk, flat_map, length, map};
 ghost use Rattle.adj_tree.specs.Listed.{statement_of};
 ghost use Rattle.adj_tree.specs.View.{act_of, mark_of};
 ghost use Rattle.adj_symbols_writes.specs.View.{seen};
@@ -13,10 +13,10 @@ ghost use Rattle.adj_plan.specs.Lines.{letter, letters, lines_from, loop_keyword
 ghost use Rattle.adj_plan.specs.View.{is_saved_in, row_lines, said_by, said_in};
 
 use crate::planning::Planned;
-use adj_flow::{End, Part, told};
+use adj_flow::{End, Part, told_by_bit};
 use adj_reach::flag_at;
 use adj_symbols_writes::statements::statements;
-use adj_tree::{Act, Mark, Memory, Name, Stmt};
+use adj_tree::{Act, BitFlags, Mark, Memory, Name, Stmt};
 use itoa::Buffer;
 use std::alloc::Global;
 
@@ -86,8 +86,10 @@ fn add_line(out: &mut Vec<u8>, unit: &Name, statement: &Stmt, said: Said) -> Res
 }
 
 // Whether the statement of a number saves a variable of its unit.
-fn is_saved(flags: &[bool], width: usize, part: &Part<'_>, statement: usize) -> Result<bool, Memory>
-    ensures saved { IfOk result (λ b. b ≡ is_saved_in flags.now width (vars_of (row_of part.now)) statement) }
+fn is_saved(flags: &BitFlags, width: usize, part: &Part<'_>, statement: usize) -> bool
+    requires width { width < 2 ^ 30 }
+    requires statement { statement < 2 ^ 30 }
+    ensures saved { result ≡ is_saved_in flags.now width (vars_of (row_of part.now)) statement }
 {
     for name in part.variables.as_slice() {
         let end = End {
@@ -95,25 +97,24 @@ fn is_saved(flags: &[bool], width: usize, part: &Part<'_>, statement: usize) -> 
             point: statement,
             name,
         };
-        if told(flags, width, end)? {
-            return Ok(true);
+        if told_by_bit(flags, width, end) {
+            return true;
         }
     }
-    Ok(false)
+    false
 }
 
 // What the marks say of the statement of a number in a unit.
-fn said_of(planned: &Planned<'_>, part: &Part<'_>, statement: usize) -> Result<Said, Memory>
-    ensures said { IfOk result (λ s. s ≡ said_by planned.now.marks planned.now.flow.width (vars_of (row_of part.now)) statement) }
+fn said_of(planned: &Planned<'_>, part: &Part<'_>, statement: usize) -> Said
+    requires statement { statement < 2 ^ 30 }
+    ensures said { result ≡ said_by planned.now.marks planned.now.flow.width (vars_of (row_of part.now)) statement }
 {
     let marks = &planned.marks;
-    let node = statement.checked_mul(2).ok_or(Memory)?;
-    let saved = marks.saved.saved.as_slice();
-    Ok(Said {
+    Said {
         kept: flag_at(marks.kept.kept.as_slice(), statement),
-        adjointed: flag_at(marks.activity.adjointed.as_slice(), node),
-        saves: is_saved(saved, planned.flow.width, part, statement)?,
-    })
+        adjointed: flag_at(marks.activity.adjointed.as_slice(), statement),
+        saves: is_saved(&marks.saved.saved, planned.flow.width, part, statement),
+    }
 }
 
 // Adds the lines of these statements of a unit, the first of which has a number.
@@ -123,11 +124,11 @@ fn add_lines(
     part: &Part<'_>,
     statements: &[&Stmt],
 ) -> Result<(), Memory>
+    requires statements { part.now.first + length statements.now < 2 ^ 30 }
     ensures added { OnOk result (out.new.items ≡ out.old.items ++ lines_from (said_by planned.now.marks planned.now.flow.width (vars_of (row_of part.now))) part.now.unit.now.name part.now.first (seen statements.now)) }
 {
     for (place, statement) in statements.iter().enumerate() {
-        let number = part.first.checked_add(place).ok_or(Memory)?;
-        let said = said_of(planned, part, number)?;
+        let said = said_of(planned, part, part.first + place);
         add_line(out, &part.unit.name, statement, said)?;
     }
     Ok(())

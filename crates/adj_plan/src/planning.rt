@@ -44,7 +44,14 @@ pub(crate) fn flow_of<'c>(
 {
     let units = checked.program().units.as_slice();
     let variables = variables(alloc, checked)?;
-    flow(alloc, units, variables.as_slice(), head, splits)
+    flow(
+        alloc,
+        units,
+        variables.as_slice(),
+        checked.statement_count(),
+        head,
+        splits,
+    )
 }
 
 // The marks of the program of which this is the flow.

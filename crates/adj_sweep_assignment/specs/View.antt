@@ -26,8 +26,8 @@ flag_of flags w n (Some j) = flag flags (n * w + j)
 abbrev pub found_marks : Found → Marks
 found_marks f = record {
   kept = flag f.marks.now.kept.kept;
-  adjointed = λ i. flag f.marks.now.activity.adjointed (2 * i);
-  split = λ i. flag f.split.now i && flag f.marks.now.activity.adjointed (2 * i);
+  adjointed = λ i. flag f.marks.now.activity.adjointed i;
+  split = λ i. flag f.split.now i && flag f.marks.now.activity.adjointed i;
   saved = λ i v. flag_of f.marks.now.saved.saved f.width i (place_of f.places.now v);
   varied = λ p v. flag_of f.marks.now.activity.varied f.width p (place_of f.places.now v);
   useful = λ p v. flag_of f.marks.now.activity.useful f.width p (place_of f.places.now v);

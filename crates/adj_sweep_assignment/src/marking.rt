@@ -9,11 +9,11 @@ ghost use Rattle.adj_sweep_assignment.specs.View.{flag_of, place_of, carried_by,
 
 use adj_reach::flag_at;
 use adj_symbols_writes::table::Numbers;
-use adj_tree::{Marks, Name};
+use adj_tree::{BitFlags, Marks, Name};
 
 /// The marks that analyses found, as one unit sees them: its number, the places of its variables, and how many variables a unit has
 /// at most. Flags of a variable stand where the point, the statement or the unit has its number times the width, and the variable
-/// its place; those of statements stand at their numbers, and for adjoints at twice these. Calls that are flagged are to be split.
+/// its place; those of statements stand at their numbers. Calls that are flagged are to be split.
 #[derive(Clone, Copy)]
 pub struct Found<'a> {
     pub marks: &'a Marks,
@@ -37,27 +37,33 @@ fn flag_of(flags: &[bool], width: usize, number: usize, place: Option<usize>) ->
     }
 }
 
+// The same of flags that take a bit each.
+fn bit_of(flags: &BitFlags, width: usize, number: usize, place: Option<usize>) -> bool
+    ensures { result ≡ flag_of flags.now width number place }
+{
+    let Some(place) = place else { return false };
+    let count = flags.len();
+    let node = number
+        .checked_mul(width)
+        .and_then(|first| first.checked_add(place));
+    match node {
+        Some(node) => node < count && flags.at(node),
+        None => false,
+    }
+}
+
 // The same where the point before a statement has three times its number.
-fn flag_before(flags: &[bool], width: usize, number: usize, place: Option<usize>) -> bool
+fn bit_before(flags: &BitFlags, width: usize, number: usize, place: Option<usize>) -> bool
     ensures { result ≡ flag_of flags.now width (3 * number) place }
 {
     let Some(place) = place else { return false };
+    let count = flags.len();
     let node = number
         .checked_mul(width)
         .and_then(|first| first.checked_mul(3))
         .and_then(|first| first.checked_add(place));
     match node {
-        Some(node) => flag_at(flags, node),
-        None => false,
-    }
-}
-
-// The flag at twice a number.
-fn flag_at_twice(flags: &[bool], number: usize) -> bool
-    ensures { result ≡ flag flags.now (2 * number) }
-{
-    match number.checked_mul(2) {
-        Some(node) => flag_at(flags, node),
+        Some(node) => node < count && flags.at(node),
         None => false,
     }
 }
@@ -72,14 +78,14 @@ impl Found<'_> {
 
     // Whether the backward sweep has the adjoint of the statement.
     fn adjointed(&self, number: usize) -> bool
-        ensures { result ≡ flag self.now.marks.now.activity.adjointed (2 * number) }
+        ensures { result ≡ flag self.now.marks.now.activity.adjointed number }
     {
-        flag_at_twice(self.marks.activity.adjointed.as_slice(), number)
+        flag_at(self.marks.activity.adjointed.as_slice(), number)
     }
 
     // Whether the statement is a split call.
     fn split(&self, number: usize) -> bool
-        ensures split { result ≡ (flag self.now.split.now number && flag self.now.marks.now.activity.adjointed (2 * number)) }
+        ensures split { result ≡ (flag self.now.split.now number && flag self.now.marks.now.activity.adjointed number) }
     {
         flag_at(self.split, number) && self.adjointed(number)
     }
@@ -88,8 +94,8 @@ impl Found<'_> {
     fn saved(&self, number: usize, x: &Name) -> bool
         ensures { result ≡ flag_of self.now.marks.now.saved.saved self.now.width number (place_of self.now.places.now (plain x.now)) }
     {
-        flag_of(
-            self.marks.saved.saved.as_slice(),
+        bit_of(
+            &self.marks.saved.saved,
             self.width,
             number,
             self.places.get(x),
@@ -112,8 +118,8 @@ impl Found<'_> {
     fn varied(&self, number: usize, x: &Name) -> bool
         ensures { result ≡ flag_of self.now.marks.now.activity.varied self.now.width (point_before number) (place_of self.now.places.now (plain x.now)) }
     {
-        flag_before(
-            self.marks.activity.varied.as_slice(),
+        bit_before(
+            &self.marks.activity.varied,
             self.width,
             number,
             self.places.get(x),

@@ -1,5 +1,5 @@
 -- What the code goes over, as clauses see it.
-use Rattle.std.specs.Prelude.{ℕ, ◌*◌, List, [], ◌∷◌, flat_map, Bool, Option, None, if◌then◌else◌, not, ◌&&◌}
+use Rattle.std.specs.Prelude.{ℕ, List, [], ◌∷◌, flat_map, Bool, Option, None, if◌then◌else◌, not, ◌&&◌}
 use Rattle.def_names.specs.Numbers.{Vars}
 use Rattle.def_names.specs.Numbering.{point_before}
 use Rattle.def_flow.specs.Ways.{Deed, passing, assigning, calling, Way}
@@ -19,7 +19,7 @@ find rs numbers x = found_at rs (value_of x numbers)
 
 -- whether the statement of a number is adjointed, and whether it is kept
 abbrev pub adjointed_by : Found → ℕ → Bool
-adjointed_by f i = flag f.adjointed.now (2 * i)
+adjointed_by f i = flag f.adjointed.now i
 
 abbrev pub kept_by : Found → ℕ → Bool
 kept_by f i = flag f.kept.now i

@@ -22,11 +22,11 @@ use crate::saves::save_nodes;
 use crate::setting::Setting;
 use adj_flow::{Flow, Sides, Units, variable_rows};
 use adj_reach_rows::{Rows, reached_by_rows};
-use adj_tree::{Activity, Flags, Head, Kept, Memory, Saved};
+use adj_tree::{Activity, BitFlags, Head, Kept, Memory, Saved};
 use std::alloc::Global;
 
 // The variables that are held at points, or read by the adjoint of the statement behind them.
-fn held(alloc: Global, flow: &Flow<'_>, setting: Setting<'_, '_>) -> Result<Flags, Memory>
+fn held(alloc: Global, flow: &Flow<'_>, setting: Setting<'_, '_>) -> Result<BitFlags, Memory>
     requires { AreNumbered flow.now flow.now.width }
     ensures held { IfOk result (λ f. (m : ℕ) → IsTrue (flag f m) ↔ ReachedFrom (held_edges setting.entry.found (map row_of flow.now.parts.items) flow.now.taking flow.now.width) (read_nodes setting.entry.found setting.entry.sides (find (map row_of setting.entry.units.parts.now) setting.entry.units.numbers.now) (map row_of flow.now.parts.items) flow.now.taking setting.entry.width) m) }
 {
@@ -43,9 +43,9 @@ fn held(alloc: Global, flow: &Flow<'_>, setting: Setting<'_, '_>) -> Result<Flag
 fn saved(
     alloc: Global,
     flow: &Flow<'_>,
-    held: &[bool],
+    held: &BitFlags,
     setting: Setting<'_, '_>,
-) -> Result<Flags, Memory>
+) -> Result<BitFlags, Memory>
     ensures saved { IfOk result (λ f. (m : ℕ) → IsTrue (flag f m) ↔ ReachedFrom [] (save_nodes held.now setting.entry.found setting.entry.sides (find (map row_of setting.entry.units.parts.now) setting.entry.units.numbers.now) (map row_of flow.now.parts.items) flow.now.taking setting.entry.width) m) }
 {
     let width = flow.width.max(1);
@@ -74,7 +74,7 @@ pub fn tbr(
         width: flow.width,
         found: Found {
             adjointed: activity.adjointed.as_slice(),
-            varied: activity.varied.as_slice(),
+            varied: &activity.varied,
             shadowed: activity.shadowed.as_slice(),
             kept: kept.kept.as_slice(),
             entry: kept.entry.as_slice(),
@@ -87,6 +87,6 @@ pub fn tbr(
         },
     };
     let held = held(alloc, flow, setting)?;
-    let saved = saved(alloc, flow, held.as_slice(), setting)?;
+    let saved = saved(alloc, flow, &held, setting)?;
     Ok(Saved { saved })
 }

@@ -1,17 +1,17 @@
 //! What is found before, by flags.
 
-ghost use Rattle.std.specs.Prelude.{◌≡◌, IfOk};
+ghost use Rattle.std.specs.Prelude.{◌≡◌, ◌<◌, ◌^◌};
 ghost use Rattle.adj_tbr.specs.View.{adjointed_by, kept_by, split_by};
 
 use adj_reach::flag_at;
-use adj_tree::Memory;
+use adj_tree::BitFlags;
 
-/// The flags of adjointed statements, which have the even numbers; of varied variables at points; of the variables of units that have a
+/// The flags of adjointed statements; of varied variables at points; of the variables of units that have a
 /// shadow; of kept statements; of the dummies of units that are needed at entry; and of the calls that are to be split.
 #[derive(Clone, Copy)]
 pub(crate) struct Found<'f> {
     pub adjointed: &'f [bool],
-    pub varied: &'f [bool],
+    pub varied: &'f BitFlags,
     pub shadowed: &'f [bool],
     pub kept: &'f [bool],
     pub entry: &'f [bool],
@@ -20,11 +20,11 @@ pub(crate) struct Found<'f> {
 
 impl Found<'_> {
     /// Whether the statement of a number is adjointed.
-    pub(crate) fn is_adjointed(self, number: usize) -> Result<bool, Memory>
-        ensures adjointed { IfOk result (λ b. b ≡ adjointed_by self.entry number) }
+    pub(crate) fn is_adjointed(self, number: usize) -> bool
+        requires low { number < 2 ^ 30 }
+        ensures adjointed { result ≡ adjointed_by self.entry number }
     {
-        let even = number.checked_mul(2).ok_or(Memory)?;
-        Ok(flag_at(self.adjointed, even))
+        flag_at(self.adjointed, number)
     }
 
     /// Whether the statement of a number is kept.

@@ -38,8 +38,8 @@ fn add_way(
 ) -> Result<(), Memory>
     ensures added { OnOk result (arcs.new.items ≡ arcs.old.items ++ way_arc found.entry (row_of part.now) (way_of way.entry)) }
 {
-    let from = number(way.from)?;
-    let to = number(way.to)?;
+    let from = number(way.from);
+    let to = number(way.to);
     let left = replaced(found, part, way.deed);
     let arc = Arc {
         from,

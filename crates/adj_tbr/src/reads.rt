@@ -1,6 +1,6 @@
 //! The adjoint reads of statements, as numbers of variables before them.
 
-ghost use Rattle.std.specs.Prelude.{◌≡◌, ◌++◌, ◌&&◌, ◌||◌, true, Some, IfOk, OnOk, map, flat_map};
+ghost use Rattle.std.specs.Prelude.{◌≡◌, ◌++◌, ◌&&◌, ◌||◌, ◌<◌, ◌^◌, true, Some, IfOk, OnOk, map, flat_map};
 ghost use Rattle.adj_tree.specs.Code.{plain};
 ghost use Rattle.adj_tree.specs.View.{act_of, term_of, terms_of};
 ghost use Rattle.def_flow.specs.Uses.{site, is_turn};
@@ -50,6 +50,7 @@ fn assigned<'t>(
     part: &Part<'_>,
     standing: &Standing<'t>,
 ) -> Result<Vec<&'t Name>, Memory>
+    requires width { width < 2 ^ 30 }
     ensures reads { IfOk result (λ v. vars_seen v.items ≡ assigned_reads found.entry width (row_of part.now) standing.now.number (act_of standing.now.act.now)) }
 {
     let statement = standing.number;
@@ -63,7 +64,7 @@ fn assigned<'t>(
                 part,
                 statement,
             };
-            let is_adjointed = found.is_adjointed(statement)?;
+            let is_adjointed = found.is_adjointed(statement);
             let is_kept = found.is_kept(statement);
             add_reads_if(occurrences, right, is_adjointed, &mut names)?;
             add_terms_if(&target.subs, is_kept || is_adjointed, &mut names)?;
@@ -85,9 +86,11 @@ fn add_before(
     statement: usize,
     names: &[&Name],
 ) -> Result<(), Memory>
+    requires width { width < 2 ^ 30 }
+    requires statement { statement < 2 ^ 30 }
     ensures added { OnOk result (nodes.new.items ≡ nodes.old.items ++ flat_map (node_before width (row_of part.now) statement) (vars_seen names.now)) }
 {
-    let point = number(Point::Before(statement))?;
+    let point = number(Point::Before(statement));
     for name in names {
         let end = End { part, point, name };
         add_node(nodes, width, end, true)?;
@@ -123,20 +126,20 @@ fn is_looked_at(
     standing: &Standing<'_>,
     called: &Part<'_>,
     bound: Bound<'_>,
-) -> Result<bool, Memory>
-    ensures looked { IfOk result (λ b. b ≡ (told_at setting.entry.found.entry.now setting.entry.width (row_of called.now) (row_of called.now).part.number (plain bound.entry.dummy.now) || ((split_by setting.entry.found standing.now.number || is_turn (place_of standing.now.place)) && flag (dummies_at setting.entry.sides.read.now (row_of called.now)) bound.entry.place))) }
+) -> bool
+    ensures looked { result ≡ (told_at setting.entry.found.entry.now setting.entry.width (row_of called.now) (row_of called.now).part.number (plain bound.entry.dummy.now) || ((split_by setting.entry.found standing.now.number || is_turn (place_of standing.now.place)) && flag (dummies_at setting.entry.sides.read.now (row_of called.now)) bound.entry.place)) }
 {
     let dummy = End {
         part: called,
         point: called.number,
         name: bound.dummy,
     };
-    let is_wanted = told(setting.found.entry, setting.width, dummy)?;
+    let is_wanted = told(setting.found.entry, setting.width, dummy);
     let read = dummies_of(setting.sides.read, called.number);
     let is_read = flag_at(read, bound.place);
     let is_split = setting.found.is_split(standing.number);
     let is_turn = standing.place.is_turn();
-    Ok(is_wanted || (is_split || is_turn) && is_read)
+    is_wanted || (is_split || is_turn) && is_read
 }
 
 // Whether an adjointed call reads the actual of a dummy.
@@ -145,14 +148,14 @@ fn is_wanted(
     standing: &Standing<'_>,
     called: &Part<'_>,
     bound: Bound<'_>,
-) -> Result<bool, Memory>
-    ensures wanted { IfOk result (λ b. b ≡ is_wanted setting.entry.found setting.entry.sides setting.entry.width (standing_of standing.now) (row_of called.now) (passed_of bound.entry)) }
+) -> bool
+    ensures wanted { result ≡ is_wanted setting.entry.found setting.entry.sides setting.entry.width (standing_of standing.now) (row_of called.now) (passed_of bound.entry) }
 {
-    let is_looked_at = is_looked_at(setting, standing, called, bound)?;
+    let is_looked_at = is_looked_at(setting, standing, called, bound);
     let written = dummies_of(setting.sides.written, called.number);
     let is_written = flag_at(written, bound.place);
     let is_turned = standing.place.turns(bound.actual);
-    Ok(!is_turned && (is_looked_at && !is_written))
+    !is_turned && (is_looked_at && !is_written)
 }
 
 // Adds the adjoint reads among the actuals of an adjointed call.
@@ -166,9 +169,9 @@ fn add_actuals(
 ) -> Result<(), Memory>
     ensures added { OnOk result (nodes.new.items ≡ nodes.old.items ++ flat_map (λ b. list_if (is_wanted setting.entry.found setting.entry.sides setting.entry.width (standing_of standing.now) (row_of called.now) b) (node_before setting.entry.width (row_of part.now) (site true standing.now.number (place_of standing.now.place)) b.2)) (map passed_of bounds.now)) }
 {
-    let point = number(Point::Before(standing.place.site(true, standing.number)))?;
+    let point = number(Point::Before(standing.place.site(true, standing.number)));
     for bound in bounds {
-        let is_wanted = is_wanted(setting, standing, called, *bound)?;
+        let is_wanted = is_wanted(setting, standing, called, *bound);
         let end = End {
             part,
             point,
@@ -191,8 +194,7 @@ fn add_found(
 ) -> Result<(), Memory>
     ensures added { OnOk result (nodes.new.items ≡ nodes.old.items ++ found_reads setting.entry.found setting.entry.sides setting.entry.width (row_of part.now) (standing_of standing.now) (terms_of actuals.now) (Some (row_of called.now))) }
 {
-    let is_adjointed = setting.found.is_adjointed(standing.number)?;
-    if is_adjointed {
+    if setting.found.is_adjointed(standing.number) {
         let bounds = bounds(alloc, called.unit.dummies.as_slice(), actuals)?;
         add_actuals(nodes, setting, part, standing, called, bounds.as_slice())?;
     }

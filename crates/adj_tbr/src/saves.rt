@@ -1,6 +1,6 @@
 //! The values that statements save, as numbers of variables at statements.
 
-ghost use Rattle.std.specs.Prelude.{◌≡◌, ◌++◌, ◌||◌, IfOk, OnOk, Some, map, flat_map};
+ghost use Rattle.std.specs.Prelude.{◌≡◌, ◌++◌, ◌||◌, ◌<◌, ◌^◌, IfOk, OnOk, Some, map, flat_map};
 ghost use Rattle.adj_tree.specs.Code.{plain};
 ghost use Rattle.adj_tree.specs.View.{act_of, terms_of};
 ghost use Rattle.def_names.specs.VariableLists.{list_if};
@@ -11,26 +11,28 @@ ghost use Rattle.adj_tbr.specs.View.{find, kept_by};
 ghost use Rattle.adj_tbr.specs.Saves.{saved_node, own_saves, found_saves, call_saves, standing_saves, unit_saves, save_nodes};
 
 use crate::setting::Setting;
-use adj_flow::{End, Flow, Part, Point, Standing, add_node, dummies_of, number, told};
+use adj_flow::{End, Flow, Part, Point, Standing, add_node, dummies_of, number, told_by_bit};
 use adj_reach::flag_at;
 use adj_symbols_writes::variables::add_handed;
-use adj_tree::{Act, Exprs, Memory, Name};
+use adj_tree::{Act, BitFlags, Exprs, Memory, Name};
 use std::alloc::Global;
 
 // Adds a variable that the statement of a number replaces, if it is held before it.
 fn add_saved(
     nodes: &mut Vec<usize>,
-    held: &[bool],
+    held: &BitFlags,
     width: usize,
     part: &Part<'_>,
     statement: usize,
     name: &Name,
 ) -> Result<(), Memory>
+    requires width { width < 2 ^ 30 }
+    requires statement { statement < 2 ^ 30 }
     ensures added { OnOk result (nodes.new.items ≡ nodes.old.items ++ saved_node held.now width (row_of part.now) statement (plain name.now)) }
 {
     let before = End {
         part,
-        point: number(Point::Before(statement))?,
+        point: number(Point::Before(statement)),
         name,
     };
     let at = End {
@@ -38,19 +40,21 @@ fn add_saved(
         point: statement,
         name,
     };
-    let is_held = told(held, width, before)?;
+    let is_held = told_by_bit(held, width, before);
     add_node(nodes, width, at, is_held)
 }
 
 // The same of some variables.
 fn add_all_saved(
     nodes: &mut Vec<usize>,
-    held: &[bool],
+    held: &BitFlags,
     width: usize,
     part: &Part<'_>,
     statement: usize,
     names: &[&Name],
 ) -> Result<(), Memory>
+    requires width { width < 2 ^ 30 }
+    requires statement { statement < 2 ^ 30 }
     ensures added { OnOk result (nodes.new.items ≡ nodes.old.items ++ flat_map (saved_node held.now width (row_of part.now) statement) (vars_seen names.now)) }
 {
     for name in names {
@@ -62,12 +66,13 @@ fn add_all_saved(
 // Adds the variable of a statement, if the statement is kept.
 fn add_kept(
     nodes: &mut Vec<usize>,
-    held: &[bool],
+    held: &BitFlags,
     setting: Setting<'_, '_>,
     part: &Part<'_>,
     statement: usize,
     name: &Name,
 ) -> Result<(), Memory>
+    requires statement { statement < 2 ^ 30 }
     ensures added { OnOk result (nodes.new.items ≡ nodes.old.items ++ list_if (kept_by setting.entry.found statement) (saved_node held.now setting.entry.width (row_of part.now) statement (plain name.now))) }
 {
     if setting.found.is_kept(statement) {
@@ -79,7 +84,7 @@ fn add_kept(
 // Adds what an assignment or a DO saves.
 fn add_own(
     nodes: &mut Vec<usize>,
-    held: &[bool],
+    held: &BitFlags,
     setting: Setting<'_, '_>,
     part: &Part<'_>,
     standing: &Standing<'_>,
@@ -98,7 +103,7 @@ fn add_own(
 fn add_found(
     alloc: Global,
     nodes: &mut Vec<usize>,
-    held: &[bool],
+    held: &BitFlags,
     setting: Setting<'_, '_>,
     part: &Part<'_>,
     standing: &Standing<'_>,
@@ -107,7 +112,7 @@ fn add_found(
 ) -> Result<(), Memory>
     ensures added { OnOk result (nodes.new.items ≡ nodes.old.items ++ found_saves held.now setting.entry.found setting.entry.sides setting.entry.width (row_of part.now) (standing_of standing.now) (terms_of actuals.now) (Some (row_of called.now))) }
 {
-    let is_adjointed = setting.found.is_adjointed(standing.number)?;
+    let is_adjointed = setting.found.is_adjointed(standing.number);
     let is_kept = setting.found.is_kept(standing.number);
     let is_split = setting.found.is_split(standing.number) && is_adjointed;
     if !is_split && (is_kept || is_adjointed) {
@@ -124,7 +129,7 @@ fn add_found(
 fn add_call(
     alloc: Global,
     nodes: &mut Vec<usize>,
-    held: &[bool],
+    held: &BitFlags,
     setting: Setting<'_, '_>,
     part: &Part<'_>,
     standing: &Standing<'_>,
@@ -148,7 +153,7 @@ fn add_call(
 fn add_standing(
     alloc: Global,
     nodes: &mut Vec<usize>,
-    held: &[bool],
+    held: &BitFlags,
     setting: Setting<'_, '_>,
     part: &Part<'_>,
     standing: &Standing<'_>,
@@ -163,7 +168,7 @@ fn add_standing(
 fn add_unit(
     alloc: Global,
     nodes: &mut Vec<usize>,
-    held: &[bool],
+    held: &BitFlags,
     setting: Setting<'_, '_>,
     part: &Part<'_>,
 ) -> Result<(), Memory>
@@ -179,7 +184,7 @@ fn add_unit(
 fn add_taking(
     alloc: Global,
     nodes: &mut Vec<usize>,
-    held: &[bool],
+    held: &BitFlags,
     setting: Setting<'_, '_>,
     part: &Part<'_>,
     takes_part: bool,
@@ -196,7 +201,7 @@ fn add_taking(
 pub(crate) fn save_nodes(
     alloc: Global,
     flow: &Flow<'_>,
-    held: &[bool],
+    held: &BitFlags,
     setting: Setting<'_, '_>,
 ) -> Result<Vec<usize>, Memory>
     ensures nodes { IfOk result (λ v. v.items ≡ save_nodes held.now setting.entry.found setting.entry.sides (find (map row_of setting.entry.units.parts.now) setting.entry.units.numbers.now) (map row_of flow.now.parts.items) flow.now.taking setting.entry.width) }

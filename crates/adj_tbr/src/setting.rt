@@ -1,5 +1,7 @@
 //! What the code goes by at every statement.
 
+ghost use Rattle.std.specs.Prelude.{◌<◌, ◌^◌};
+
 use crate::found::Found;
 use adj_flow::{Sides, Units};
 
@@ -10,4 +12,5 @@ pub(crate) struct Setting<'s, 'a> {
     pub found: Found<'s>,
     pub sides: Sides<'s>,
     pub units: Units<'s, 'a>,
+    pub ghost narrow: { width < 2 ^ 30 },
 }

@@ -114,8 +114,8 @@ unit_alike ps h f t over apart head at k u place found has =
 pub marks_found : (f : Flow) (t : flags.Marks) (k : ℕ) (p : row.Part) → At f.parts.items k p → (es : List (List ℕ × ℕ)) → es ≡ p.places → (splits : List Bool) → splits ≡ f.split →
     (let m : Marks = record {
       kept = flag t.kept.kept;
-      adjointed = λ i. flag t.activity.adjointed (2 * i);
-      split = λ i. flag splits i && flag t.activity.adjointed (2 * i);
+      adjointed = λ i. flag t.activity.adjointed i;
+      split = λ i. flag splits i && flag t.activity.adjointed i;
       saved = λ i v. view.flag_of t.saved.saved f.width i (view.place_of es v);
       varied = λ q v. view.flag_of t.activity.varied f.width q (view.place_of es v);
       useful = λ q v. view.flag_of t.activity.useful f.width q (view.place_of es v);
@@ -124,8 +124,8 @@ pub marks_found : (f : Flow) (t : flags.Marks) (k : ℕ) (p : row.Part) → At f
 marks_found f t k p at es is splits split =
     λ j. record {
       kept = flag t.kept.kept;
-      adjointed = λ i. flag t.activity.adjointed (2 * i);
-      split = λ i. flag (split j) i && flag t.activity.adjointed (2 * i);
+      adjointed = λ i. flag t.activity.adjointed i;
+      split = λ i. flag (split j) i && flag t.activity.adjointed i;
       saved = λ i v. same t.saved.saved i v j;
       varied = λ q v. same t.activity.varied q v j;
       useful = λ q v. same t.activity.useful q v j;

@@ -41,8 +41,8 @@ marks_at f t k =
     let vs = map plain (slice_index_or (variables_of f) k []) in
     record {
       kept = flag t.kept.kept;
-      adjointed = λ i. flag t.activity.adjointed (2 * i);
-      split = λ i. flag f.split i && flag t.activity.adjointed (2 * i);
+      adjointed = λ i. flag t.activity.adjointed i;
+      split = λ i. flag f.split i && flag t.activity.adjointed i;
       saved = λ i v. flag_at t.saved.saved (node_in f.width vs (i, v));
       varied = λ p v. flag_at t.activity.varied (node_in f.width vs (p, v));
       useful = λ p v. flag_at t.activity.useful (node_in f.width vs (p, v));

@@ -22,16 +22,6 @@ pub struct FoundMarks<'a> {
     pub flow: &'a Flow<'a>,
 }
 
-// The flag at twice a number.
-fn flag_at_twice(flags: &[bool], number: usize) -> bool
-    ensures { result ≡ flag flags.now (2 * number) }
-{
-    match number.checked_mul(2) {
-        Some(node) => flag_at(flags, node),
-        None => false,
-    }
-}
-
 impl<'a> FoundMarks<'a> {
     // Whether the flag of a variable of a unit is set, and the unit takes part.
     fn told(&self, flags: &[bool], unit: usize, name: &Name) -> Result<bool, Memory>
@@ -47,7 +37,7 @@ impl<'a> FoundMarks<'a> {
             point: unit,
             name,
         };
-        let flag = told(flags, self.flow.width, end)?;
+        let flag = told(flags, self.flow.width, end);
         Ok(flag)
     }
 
@@ -108,9 +98,7 @@ impl<'a> Marked<'a> {
     {
         match self {
             Marked::Full => true,
-            Marked::Found(found) => {
-                flag_at_twice(found.marks.activity.adjointed.as_slice(), number)
-            }
+            Marked::Found(found) => { flag_at(found.marks.activity.adjointed.as_slice(), number) }
         }
     }
 

@@ -1,14 +1,15 @@
 //! Texts, and the activity of their programs.
 
-ghost use Rattle.std.specs.Prelude.{◌≡◌, IfOk, map};
+ghost use Rattle.std.specs.Prelude.{IfOk};
 ghost use Rattle.adj_tree.specs.View.{procedures_of};
 ghost use Rattle.adj_symbols.specs.Checked.{IsWrittenIfNamed};
 
-use adj_activity::{activity, flow};
+use adj_activity::activity;
 use adj_fixed::Mode;
 use adj_flow::{Flow, Part};
+use adj_plan::carrying;
 use adj_symbols::{Checked, check};
-use adj_tree::{Activity, Fault, Flags, Head, Memory, NameList, Program};
+use adj_tree::{Activity, Fault, Flags, Head, Memory, Program};
 use std::alloc::Global;
 use std::test::Fail;
 
@@ -17,21 +18,6 @@ pub(crate) fn read(alloc: Global, source: &[u8]) -> Result<Program, Fault>
     ensures written { IfOk result (λ p. IsWrittenIfNamed (procedures_of p)) }
 {
     adj_tool_answer::read(alloc, source, Mode::Source)
-}
-
-// The variables of each unit.
-pub(crate) fn variables<'c>(
-    alloc: Global,
-    checked: &'c Checked,
-) -> Result<Vec<&'c NameList>, Memory>
-    ensures all { IfOk result (λ v. map (λ b. b.now) v.items ≡ checked.now.variables) }
-{
-    let count = checked.program().units.as_slice().len();
-    let mut variables = Vec::new(alloc);
-    for unit in 0..count {
-        variables.push(checked.variables(unit))?;
-    }
-    Ok(variables)
 }
 
 // A flag for each digit.
@@ -55,8 +41,7 @@ fn letter(flags: &[bool], place: usize, yes: u8, not: u8) -> u8 {
 // Adds an A for each statement of a unit that has an adjoint, and a point for the others.
 fn add_adjoints(out: &mut Vec<u8>, part: &Part<'_>, adjointed: &[bool]) -> Result<(), Memory> {
     for standing in part.statements.as_slice() {
-        let place = standing.number.checked_mul(2).ok_or(Memory)?;
-        out.push(letter(adjointed, place, b'A', b'.'))?;
+        out.push(letter(adjointed, standing.number, b'A', b'.'))?;
     }
     Ok(())
 }
@@ -91,14 +76,12 @@ fn shown(alloc: Global, flow: &Flow<'_>, activity: &Activity) -> Result<Vec<u8>,
 
 // The activity of a checked program, whose first unit is the head.
 fn answer(alloc: Global, checked: &Checked, head: &Head) -> Result<Vec<u8>, Memory> {
-    let variables = variables(alloc, checked)?;
-    let units = checked.program().units.as_slice();
-    if head.unit >= units.len() || units.len() == usize::MAX {
+    if head.unit >= checked.program().units.as_slice().len() || !checked.fits() {
         return Ok(Vec::new(alloc));
     }
-    let flow = flow(alloc, units, variables.as_slice(), head.unit, &[])?;
-    let activity = activity(alloc, &flow, head)?;
-    shown(alloc, &flow, &activity)
+    let carrying = carrying(alloc, checked, head)?;
+    let activity = activity(alloc, &carrying.flow, head)?;
+    shown(alloc, &carrying.flow, &activity)
 }
 
 // Whether the program of a text has this activity for its first unit, whose dummies with a 1 are independent, and dependent.

@@ -5,7 +5,7 @@ use adj_fixed::Mode;
 use adj_flow::{Flow, Part};
 use adj_plan::plan;
 use adj_symbols::{Checked, check};
-use adj_tree::{Fault, Flags, Head, Marks, Memory, Name};
+use adj_tree::{BitFlags, Fault, Flags, Head, Marks, Memory, Name};
 use std::alloc::Global;
 use std::test::Fail;
 
@@ -185,10 +185,20 @@ pub(crate) fn add_set(
 }
 
 // Adds the variables that a statement saves, behind a colon, if it saves any.
-fn add_saved(out: &mut Vec<u8>, names: &[Name], flags: &Flags, first: usize) -> Result<(), Memory> {
+fn add_saved(
+    out: &mut Vec<u8>,
+    names: &[Name],
+    flags: &BitFlags,
+    first: usize,
+) -> Result<(), Memory> {
     out.push(b':')?;
     let before = out.len();
-    add_names(out, names, flags, first)?;
+    for (number, name) in names.iter().enumerate() {
+        let place = first.checked_add(number).ok_or(Memory)?;
+        if flags.at(place) {
+            out.extend_from_slice(name.bytes())?;
+        }
+    }
     if out.len() == before {
         out.pop();
     }
@@ -203,10 +213,9 @@ fn add_statement(
     number: usize,
     marks: &Marks,
 ) -> Result<(), Memory> {
-    let node = number.checked_mul(2).ok_or(Memory)?;
     let first = number.checked_mul(width).ok_or(Memory)?;
     let kept = is_set(&marks.kept.kept, number);
-    let adjointed = is_set(&marks.activity.adjointed, node);
+    let adjointed = is_set(&marks.activity.adjointed, number);
     out.push(if kept { b'K' } else { b'-' })?;
     out.push(if adjointed { b'A' } else { b'-' })?;
     add_saved(out, part.variables.as_slice(), &marks.saved.saved, first)?;

@@ -1,6 +1,6 @@
 //! What is emitted by exact activity, and by flags that are given of what is kept, saved and needed.
 
-ghost use Rattle.std.specs.Prelude.{◌≡◌, ◌<◌, ℕ, false, IfOk, length, map};
+ghost use Rattle.std.specs.Prelude.{◌≡◌, ◌<◌, ℕ, false, IfOk, length};
 ghost use Rattle.adj_tree.specs.View.{procedures_of};
 ghost use Rattle.adj_reach.specs.Edges.{flag};
 ghost use Rattle.adj_symbols.specs.Checked.{IsWrittenIfNamed};
@@ -8,14 +8,15 @@ ghost use Rattle.def_names.specs.Fault.{run_rules};
 ghost use Rattle.law_emitted.specs.Checked.{IsChecked};
 ghost use Rattle.adj_weave_units.specs.Flowing.{IsFlowOf};
 
-use adj_activity::{activity, flow};
+use adj_activity::activity;
 use adj_fixed::Mode;
 use adj_flow::Flow;
 use adj_norm_statement::is_kernel;
+use adj_plan::carrying;
 use adj_print::text;
 use adj_sweep::steps::MarkedLoops;
 use adj_symbols::{Checked, check};
-use adj_tree::{Fault, Flags, Head, Kept, Marks, Memory, NameList, Program, Saved};
+use adj_tree::{BitFlags, Fault, Flags, Head, Kept, Marks, Memory, Program, Saved};
 use adj_weave::{FoundMarks, Marked, adjoint};
 use std::alloc::Global;
 use std::test::Fail;
@@ -27,21 +28,6 @@ pub(crate) fn read(alloc: Global, source: &[u8]) -> Result<Program, Fault>
     adj_tool_answer::read(alloc, source, Mode::Source)
 }
 
-// The variables of each unit.
-pub(crate) fn variables<'c>(
-    alloc: Global,
-    checked: &'c Checked,
-) -> Result<Vec<&'c NameList>, Memory>
-    ensures all { IfOk result (λ v. map (λ b. b.now) v.items ≡ checked.now.variables) }
-{
-    let count = checked.program().units.as_slice().len();
-    let mut variables = Vec::new(alloc);
-    for unit in 0..count {
-        variables.push(checked.variables(unit))?;
-    }
-    Ok(variables)
-}
-
 // A flag for each digit.
 pub(crate) fn flags(alloc: Global, digits: &[u8]) -> Result<Flags, Memory> {
     let mut flags = Vec::new(alloc);
@@ -49,6 +35,17 @@ pub(crate) fn flags(alloc: Global, digits: &[u8]) -> Result<Flags, Memory> {
         flags.push(*digit == b'1')?;
     }
     Ok(Flags::new(flags))
+}
+
+// The same, a bit each.
+fn bits(alloc: Global, digits: &[u8]) -> Result<BitFlags, Memory> {
+    let mut bits = BitFlags::new(alloc, digits.len())?;
+    for (place, digit) in digits.iter().enumerate() {
+        if *digit == b'1' && place < bits.len() {
+            bits.set(place);
+        }
+    }
+    Ok(bits)
 }
 
 // A digit for each dummy of the head, whether it is independent and whether it is dependent; for each statement, whether it is kept;
@@ -83,7 +80,7 @@ fn emitted(
             entry: flags(alloc, given.entry)?,
         },
         saved: Saved {
-            saved: flags(alloc, given.saved)?,
+            saved: bits(alloc, given.saved)?,
         },
     };
     let found = FoundMarks {
@@ -97,19 +94,17 @@ fn emitted(
 
 // The same of a checked program, if it is in kernel form, with its first unit as the head.
 fn answer(alloc: Global, checked: &Checked, given: Given<'_>) -> Result<Vec<u8>, Memory> {
-    let variables = variables(alloc, checked)?;
     let program = checked.program();
-    let units = program.units.as_slice();
     let head = Head {
         unit: 0,
         vars: flags(alloc, given.vars)?,
         outvars: flags(alloc, given.outvars)?,
     };
-    if units.len() == 0 || units.len() == usize::MAX || !is_kernel(program) {
+    if program.units.as_slice().len() == 0 || !checked.fits() || !is_kernel(program) {
         return Ok(Vec::new(alloc));
     }
-    let flow = flow(alloc, units, variables.as_slice(), 0, &[])?;
-    emitted(alloc, checked, &flow, &head, given)
+    let carrying = carrying(alloc, checked, &head)?;
+    emitted(alloc, checked, &carrying.flow, &head, given)
 }
 
 // Whether this is emitted for the program of a text.

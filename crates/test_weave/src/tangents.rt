@@ -5,11 +5,11 @@ ghost use Rattle.adj_tree.specs.View.{procedures_of};
 ghost use Rattle.def_kernel.specs.Form.{IsKernel};
 ghost use Rattle.adj_weave_units.specs.Flowing.{IsFlowOf};
 
-use crate::spared::{flags, read, variables};
-use adj_activity::flow;
+use crate::spared::{flags, read};
 use adj_fixed::Mode;
 use adj_flow::Flow;
 use adj_norm_statement::is_kernel;
+use adj_plan::carrying;
 use adj_print::text;
 use adj_symbols::{Checked, check};
 use adj_tangent::{Carried, tangent};
@@ -42,20 +42,18 @@ fn answer(
     vars: &[u8],
     carried: &[u8],
 ) -> Result<Vec<u8>, Memory> {
-    let variables = variables(alloc, checked)?;
     let program = checked.program();
-    let units = program.units.as_slice();
     let head = Head {
         unit: 0,
         vars: flags(alloc, vars)?,
         outvars: flags(alloc, b"")?,
     };
-    if units.len() == 0 || units.len() == usize::MAX || !is_kernel(program) {
+    if program.units.as_slice().len() == 0 || !checked.fits() || !is_kernel(program) {
         return Ok(Vec::new(alloc));
     }
-    let flow = flow(alloc, units, variables.as_slice(), 0, &[])?;
+    let carrying = carrying(alloc, checked, &head)?;
     let carried = flags(alloc, carried)?;
-    emitted(alloc, checked, &flow, &head, &carried)
+    emitted(alloc, checked, &carrying.flow, &head, &carried)
 }
 
 // Whether this is the tangent of the program of a text.

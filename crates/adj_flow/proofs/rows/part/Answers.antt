@@ -18,10 +18,10 @@ returns-clause-row c =
     let s : map standing_of c.in_ok-statements.statements.items ≡ standing outermost (length c.args.outline.now.statements.items) (code_of c.args.unit.now.body) =
     ap (map standing_of) (c.in_ok-statements.ensures.same ∙ take_rest c.deref.result.now c.len-first.result) ∙ ap (λ (k : ℕ). map standing_of (drop k c.deref.result.now)) n ∙ ap (λ z. map standing_of (drop (length c.args.outline.now.statements.items) z)) c.deref.ensures.value
     ∙ mapped_behind standing_of old c.add_list.new.outline.statements.items (standing outermost (length old) body) c.in_ok-add_list.ensures.statements in
-    let w : map way_of c.replace-ways.result.items ≡ ways (length c.args.outline.now.statements.items) c.in_ok-entry.entry c.in_ok-entry.end passing (code_of c.args.unit.now.body) =
-    ap (λ z. map way_of z.items) c.replace-ways.ensures.value ∙ c.in_ok-add_list.ensures.ways ∙ ap (λ z. map way_of z ++ ways (length c.args.outline.now.statements.items) c.in_ok-entry.entry c.in_ok-entry.end passing (code_of c.args.unit.now.body)) c.requires.none in
-    let e = c.in_ok-entry.ensures.ends.0 in
-    let f = c.in_ok-entry.ensures.ends.1 in
+    let w : map way_of c.replace-ways.result.items ≡ ways (length c.args.outline.now.statements.items) c.ends-points.result.0 c.ends-points.result.1 passing (code_of c.args.unit.now.body) =
+    ap (λ z. map way_of z.items) c.replace-ways.ensures.value ∙ c.in_ok-add_list.ensures.ways ∙ ap (λ z. map way_of z ++ ways (length c.args.outline.now.statements.items) c.ends-points.result.0 c.ends-points.result.1 passing (code_of c.args.unit.now.body)) c.requires.none in
+    let e = c.ends-points.ensures.ends.0 in
+    let f = c.ends-points.ensures.ends.1 in
     λ i. record {
       part = record { number = c.args.number; unit = procedure_of c.args.unit.now; first = n i; entry = e i; end = f i };
       statements = s i;

@@ -2,7 +2,7 @@ use Rattle.std.proofs.Common.{◌≡◌, ◌⊎◌, ℕ, ◌+◌, ◌*◌, ◌<�
 use Rattle.std.specs.Prelude.{◌↔◌, Option, Some, IfSome}
 use Rattle.std.proofs.lemmas.List.{take_all, get_or_read}
 use Rattle.adj_symbols_writes.specs.Graph.{place_from}
-use Rattle.adj_reach_rows.specs.Bits.{bit}
+use Rattle.adj_tree.specs.Bits.{bit}
 use Rattle.adj_flow.proofs.UnitSetting.{set_start, set_more, set_end, place_below}
 use Rattle.adj_flow.proofs.unit_rows.set_variables.Goals as goal
 

@@ -1,7 +1,7 @@
 -- The places of the names passed are set.
 use Rattle.std.proofs.Common.{◌≡◌, ◌⊎◌, ℕ, ◌*◌, take}
 use Rattle.std.specs.Prelude.{◌↔◌}
-use Rattle.adj_reach_rows.specs.Bits.{bit}
+use Rattle.adj_tree.specs.Bits.{bit}
 use Rattle.adj_flow.proofs.UnitSetting.{IsSet}
 use Rattle.adj_flow.proofs.unit_rows.set_variables.Given as goal
 

@@ -6,7 +6,7 @@ use Rattle.std.proofs.Math.ListN.{get_or-map}
 use Rattle.adj_reach.proofs.Members.{map_has}
 use Rattle.adj_flow.specs.NodeView.{vars_of}
 use Rattle.adj_flow.specs.Rows.{Row, row_of}
-use Rattle.adj_reach_rows.specs.Bits.{bit}
+use Rattle.adj_tree.specs.Bits.{bit}
 use Rattle.adj_flow.specs.UnitRows.{IsPlace}
 use Rattle.adj_flow.proofs.UnitNumbers.{rows_narrow}
 use Rattle.adj_flow.proofs.UnitSetting.{IsHeld, held_more, hold_places}

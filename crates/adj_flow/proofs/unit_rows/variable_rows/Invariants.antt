@@ -2,7 +2,7 @@
 use Rattle.std.proofs.Common.{◌≡◌, ℕ, ◌*◌, ◌<◌, take, map, length}
 use Rattle.std.specs.Prelude.{◌↔◌}
 use Rattle.adj_flow.specs.Rows.{row_of}
-use Rattle.adj_reach_rows.specs.Bits.{bit}
+use Rattle.adj_tree.specs.Bits.{bit}
 use Rattle.adj_flow.proofs.UnitSetting.{IsHeld}
 use Rattle.adj_flow.proofs.unit_rows.variable_rows.Given as goal
 

@@ -15,11 +15,11 @@ use Rattle.adj_live.proofs.finding.facts.Goals as goal
 
 pub variable_rows-requires : goal.variable_rows-requires
 variable_rows-requires c =
-    let s : c.in_ok-width.width ≡ c.args.flow.now.width + 2 = c.in_ok-width.ensures.stride in
-    record { flow = wider c.args.flow.now c.args.flow.now.width c.in_ok-width.width (omega (arith, s)) c.requires.flow }
+    let s : c.stride-width.result ≡ c.args.flow.now.width + 2 = c.stride-width.ensures.stride in
+    record { flow = wider c.args.flow.now c.args.flow.now.width c.stride-width.result (omega (arith, s)) c.requires.flow }
 
 pub reached_by_rows-requires-clause-some : goal.reached_by_rows-requires-clause-some
-reached_by_rows-requires-clause-some c = let s : c.in_ok-width.width ≡ c.args.flow.now.width + 2 = c.in_ok-width.ensures.stride in omega (arith, s)
+reached_by_rows-requires-clause-some c = let s : c.stride-width.result ≡ c.args.flow.now.width + 2 = c.stride-width.ensures.stride in omega (arith, s)
 
 pub returns : goal.returns
 returns c =
@@ -29,7 +29,7 @@ returns c =
     let here = here_in k in
     let rows = c.in_ok-rows.rows in
     let start = all_nodes here rs fl.taking in
-    let width : c.in_ok-width.width ≡ c.args.known.width + 2 = c.in_ok-width.ensures.stride ∙ ap (λ z. z + 2) (sym c.requires.width) in
+    let width : c.stride-width.result ≡ c.args.known.width + 2 = c.stride-width.ensures.stride ∙ ap (λ z. z + 2) (sym c.requires.width) in
     let arcs = c.as_slice.ensures.value ∙ c.in_ok-arcs.ensures.arcs in
     let edges = c.as_slice-2.ensures.value ∙ c.in_ok-edges.ensures.edges in
     let nodes = c.as_slice-3.ensures.value ∙ c.in_ok-nodes.ensures.nodes in

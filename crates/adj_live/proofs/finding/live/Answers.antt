@@ -32,10 +32,10 @@ returns c =
     let lengths : length (variables_of c.args.flow.now) ≡ length (units_of c.args.flow.now) = length-map c.args.flow.now.parts.items (λ p. p.variables.now) ∙ sym (length-map c.args.flow.now.parts.items (λ p. procedure_of p.unit.now)) in
     let given = subst (λ (z : List Part). (m : ℕ) → IsTrue (flag facts m) ↔ ReachedFrom (all_edges (seen_by fl.numbers w reads writes b (flag c.as_slice-2.result.now) (map row_of z)) rs fl.taking) (all_nodes (seen_by fl.numbers w reads writes b (flag c.as_slice-2.result.now) (map row_of z)) rs fl.taking) m) c.as_slice.ensures.value c.in_ok-facts.ensures.facts in
     let exact = subst (λ (z : List Bool). (m : ℕ) → IsTrue (flag facts m) ↔ ReachedFrom (all_edges (seen_by fl.numbers w reads writes b (flag z) (map row_of fl.parts.items)) rs fl.taking) (all_nodes (seen_by fl.numbers w reads writes b (flag z) (map row_of fl.parts.items)) rs fl.taking) m) c.as_slice-2.ensures.members given in
-    let s : c.in_ok-stride.stride ≡ c.args.flow.now.width + 2 = c.in_ok-stride.ensures.stride in
-    let last : c.in_ok-stride.stride - 1 ≡ c.args.flow.now.width + 1 = omega (arith, s) in
-    let kept_by = λ (n : ℕ). c.in_ok-kept.ensures.picked n ∙ (λ i. flag (c.as_slice-3.ensures.members i) (n * s i + w)) in
-    let entry_by = λ (n : ℕ). c.in_ok-entry.ensures.picked n ∙ (λ i. flag (c.as_slice-4.ensures.members i) (n * s i + last i)) in
+    let s : c.stride-stride.result ≡ c.args.flow.now.width + 2 = c.stride-stride.ensures.stride in
+    let last : c.stride-stride.result - 1 ≡ c.args.flow.now.width + 1 = omega (arith, s) in
+    let kept_by = λ (n : ℕ). c.in_ok-kept.ensures.picked n ∙ (λ i. flag facts (n * s i + w)) in
+    let entry_by = λ (n : ℕ). c.in_ok-entry.ensures.picked n ∙ (λ i. flag facts (n * s i + last i)) in
     record {
       live = record {
         needed = told facts (scope_by (variables_of fl) (flag fl.taking) (units_of fl)) (w + 2);

@@ -13,4 +13,4 @@ pub returns : goal.returns
 returns c =
     let s = c.args.site in
     let r = row_of s.part.now in
-    record { added = subst (λ (z : Vars). OnOk c.add_reads.result (vars_seen c.add_reads.new.out.items ≡ vars_seen c.args.out.now.items ++ adjoint_reads_in z (term_of c.args.term.now))) (λ i v. told_at (c.as_slice.ensures.members i) s.known.width r (point_before c.args.statement) v && told_at (c.as_slice-2.ensures.members i) s.known.width r r.part.number v) c.add_reads.ensures.added }
+    record { added = subst (λ (z : Vars). OnOk c.add_reads.result (vars_seen c.add_reads.new.out.items ≡ vars_seen c.args.out.now.items ++ adjoint_reads_in z (term_of c.args.term.now))) (λ i v. told_at s.known.activity.now.varied s.known.width r (point_before c.args.statement) v && told_at (c.as_slice.ensures.members i) s.known.width r r.part.number v) c.add_reads.ensures.added }

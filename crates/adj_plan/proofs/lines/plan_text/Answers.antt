@@ -1,6 +1,5 @@
 use Rattle.std.proofs.Common.{ap, ◌∙◌}
 use Rattle.std.specs.List.{flat_map}
-use Rattle.adj_flow.specs.Asked.{units_of, variables_of}
 use Rattle.adj_plan.specs.View.{row_lines}
 use Rattle.adj_plan.proofs.Saying.{rows_lines}
 use Rattle.adj_plan.proofs.lines.plan_text.Goals as goal

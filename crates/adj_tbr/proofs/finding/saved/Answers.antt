@@ -3,7 +3,7 @@ use Rattle.std.proofs.Common.{ℕ, [], map, subst, ◌∙◌}
 use Rattle.std.specs.Prelude.{◌↔◌, IsTrue, IfOk}
 use Rattle.std.proofs.lemmas.Result.{IfOk-weaker}
 use Rattle.adj_flow.specs.Rows.{row_of}
-use Rattle.adj_flow.proofs.Carrying.{reached_none}
+use Rattle.adj_flow.proofs.Carrying.{reached_by_edges}
 use Rattle.adj_reach.specs.Edges.{ReachedFrom, flag}
 use Rattle.adj_reach_rows.specs.Arcs.{ReachedByRows}
 use Rattle.adj_tbr.specs.View.{find}
@@ -20,5 +20,5 @@ returns c =
     let exact = subst (λ z. IfOk c.reached_by_rows.result (λ g. (m : ℕ) → IsTrue (flag g m) ↔ ReachedByRows c.max-width.result rows [] [] z m)) listed c.reached_by_rows.ensures.exact in
     record {
       saved = IfOk-weaker c.reached_by_rows.result (λ g. (m : ℕ) → IsTrue (flag g m) ↔ ReachedByRows c.max-width.result rows [] [] nodes m) (λ g. (m : ℕ) → IsTrue (flag g m) ↔ ReachedFrom [] nodes m)
-          (λ g h m. let r = reached_none c.max-width.result rows nodes m in ((λ t. r.0 ((h m).0 t)), (λ t. (h m).1 (r.1 t)))) exact;
+          (λ g h m. let r = reached_by_edges c.max-width.result rows [] nodes m in ((λ t. r.0 ((h m).0 t)), (λ t. (h m).1 (r.1 t)))) exact;
     }

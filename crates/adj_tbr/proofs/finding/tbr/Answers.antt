@@ -36,16 +36,15 @@ returns c =
     let vss = variables_of c.args.flow.now in
     let rs = map row_of c.args.flow.now.parts.items in
     let w = fl.width in
-    let f : Found = record { adjointed = c.as_slice.result; varied = c.as_slice-2.result; shadowed = c.as_slice-3.result; kept = c.as_slice-4.result; entry = c.as_slice-5.result; split = c.as_slice-6.result } in
+    let f : Found = record { adjointed = c.as_slice.result; varied = record { ref_ptr = c.args.activity.ref_ptr; now = c.args.activity.now.varied }; shadowed = c.as_slice-2.result; kept = c.as_slice-3.result; entry = c.as_slice-4.result; split = c.as_slice-5.result } in
     let t = c.args.sides in
     let held = c.in_ok-held.held in
     let saved = c.in_ok-saved.saved in
     let o : Scope = scope_by vss (flag fl.taking) (units_of c.args.flow.now) in
     let lengths : length (variables_of c.args.flow.now) ≡ length (units_of c.args.flow.now) = length-map c.args.flow.now.parts.items (λ p. p.variables.now) ∙ sym (length-map c.args.flow.now.parts.items (λ p. procedure_of p.unit.now)) in
-    let parts = c.as_slice-7.ensures.value in
-    let flags = c.as_slice-8.ensures.members in
+    let parts = c.as_slice-6.ensures.value in
     let reached = subst (λ z. (m : ℕ) → IsTrue (flag held m) ↔ ReachedFrom (held_edges f rs fl.taking w) (read_nodes f t (find (map row_of z) fl.numbers) rs fl.taking w) m) parts c.in_ok-held.ensures.held in
-    let found = subst (λ z. (m : ℕ) → IsTrue (flag saved m) ↔ ReachedFrom [] z m) (λ i. save_nodes (flags i) f t (find (map row_of (parts i)) fl.numbers) rs fl.taking w) c.in_ok-saved.ensures.saved in
+    let found = subst (λ z. (m : ℕ) → IsTrue (flag saved m) ↔ ReachedFrom [] z m) (λ i. save_nodes held f t (find (map row_of (parts i)) fl.numbers) rs fl.taking w) c.in_ok-saved.ensures.saved in
     let x : Answer (problem_of c.args.flow.now c.args.head.now) (variables_of c.args.flow.now) c.args.flow.now.numbers c.args.flow.now.taking c.args.flow.now.width (map row_of c.args.flow.now.parts.items) f c.args.sides c.in_ok-held.held c.in_ok-saved.saved =
     record {
       known = is.numbers;
@@ -56,7 +55,7 @@ returns c =
       same = is.rows;
       read = c.requires.read;
       written = c.requires.written;
-      splits = λ n i. flag (c.as_slice-6.ensures.members i) n;
+      splits = λ n i. flag (c.as_slice-5.ensures.members i) n;
       reached = reached;
       found = found;
     } in
@@ -65,14 +64,14 @@ returns c =
         held = held_by (flag f.kept.now) (told held o w) o;
         holds = λ needed. subst (λ (z : Activity × Liveness). IsHeld k z.0 z.1 (held_by (flag f.kept.now) (told held o w) o))
             (λ i. (
-              activity_told (c.as_slice-2.ensures.members i) c.args.activity.now.useful (c.as_slice-3.ensures.members i) (c.as_slice.ensures.members i) o w,
-              record { needed = needed; kept = flag (c.as_slice-4.ensures.members i); wanted = λ u d. told_of (c.as_slice-5.ensures.members i) o w u (plain d) },
+              activity_told c.args.activity.now.varied c.args.activity.now.useful (c.as_slice-2.ensures.members i) (c.as_slice.ensures.members i) o w,
+              record { needed = needed; kept = flag (c.as_slice-3.ensures.members i); wanted = λ u d. told_of (c.as_slice-4.ensures.members i) o w u (plain d) },
             ))
             (tells_held k vss fl.numbers fl.taking w rs f c.args.activity.now.useful t held saved x needed);
         saves = λ needed. subst (λ (z : Activity × Liveness). IsSaved k z.0 z.1 (saved_of c.args.flow.now (record { saved = saved })))
             (λ i. (
-              activity_told (c.as_slice-2.ensures.members i) c.args.activity.now.useful (c.as_slice-3.ensures.members i) (c.as_slice.ensures.members i) o w,
-              record { needed = needed; kept = flag (c.as_slice-4.ensures.members i); wanted = λ u d. told_of (c.as_slice-5.ensures.members i) o w u (plain d) },
+              activity_told c.args.activity.now.varied c.args.activity.now.useful (c.as_slice-2.ensures.members i) (c.as_slice.ensures.members i) o w,
+              record { needed = needed; kept = flag (c.as_slice-3.ensures.members i); wanted = λ u d. told_of (c.as_slice-4.ensures.members i) o w u (plain d) },
             ))
             (tells_saved k vss fl.numbers fl.taking w rs f c.args.activity.now.useful t held saved x needed);
       };

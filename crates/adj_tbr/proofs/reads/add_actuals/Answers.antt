@@ -16,4 +16,4 @@ loop-bound-init c =
     let s = c.args.setting in
     let at = standing_of c.args.standing.now in
     let vs = vars_of (row_of c.args.part.now) in
-    ap (λ p. c.args.nodes.now.items ++ flat_map (λ (b : Passed). list_if (is_wanted s.found s.sides s.width at (row_of c.args.called.now) b) (list_of (node_in s.width vs (p, b.2)))) (map passed_of c.args.bounds.now)) (c.in_ok-point.ensures.number ∙ ap point_before c.site.ensures.is)
+    ap (λ p. c.args.nodes.now.items ++ flat_map (λ (b : Passed). list_if (is_wanted s.found s.sides s.width at (row_of c.args.called.now) b) (list_of (node_in s.width vs (p, b.2)))) (map passed_of c.args.bounds.now)) (c.number-point.ensures.number ∙ ap point_before c.site.ensures.is)

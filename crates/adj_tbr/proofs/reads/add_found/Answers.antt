@@ -18,5 +18,5 @@ returns-in_ok-add_actuals c =
     let f = λ (b : Passed). list_if (is_wanted s.found s.sides s.width (standing_of c.args.standing.now) (row_of c.args.called.now) b) (node_before s.width (row_of c.args.part.now) (site true n at) b.2) in
     let bounds : map passed_of c.as_slice-then-is_adjointed.result.now ≡ bound_from 0 c.args.called.now.unit.now.dummies (terms_of c.args.actuals.now) =
     ap (map passed_of) c.as_slice-then-is_adjointed.ensures.value ∙ c.in_ok-bounds.ensures.bounds ∙ ap (λ d. bound_from 0 d (terms_of c.args.actuals.now)) c.as_slice.ensures.members in
-    let adjointed : true ≡ adjointed_by c.args.setting.found c.args.standing.now.number = sym c.if-is_adjointed.true ∙ c.in_ok-is_adjointed.ensures.adjointed in
+    let adjointed : true ≡ adjointed_by c.args.setting.found c.args.standing.now.number = sym c.if-is_adjointed.true ∙ c.is_adjointed.ensures.adjointed in
     record { added = c.in_ok-add_actuals.ensures.added ∙ (λ i. c.args.nodes.now.items ++ list_if (adjointed i) (flat_map f (bounds i))) }

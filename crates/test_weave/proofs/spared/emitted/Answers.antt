@@ -20,7 +20,7 @@ adjoint-requires-clause-shadows c =
     let f = c.args.flow.now in
     let a = c.in_ok-activity.activity in
     let units = c.requires.flow.units in
-    let t : Marks = record { activity = a; kept = record { kept = c.in_ok-flags.field-0; entry = c.in_ok-flags-2.field-0 }; saved = record { saved = c.in_ok-flags-3.field-0 } } in
+    let t : Marks = record { activity = a; kept = record { kept = c.in_ok-flags.field-0; entry = c.in_ok-flags-2.field-0 }; saved = record { saved = c.in_ok-bits.field-0 } } in
     subst (λ qs. AllHaveShadows (marks_told f t) qs qs) units
     (exact_shadows run_rules (problem_of f c.args.head.now) (subst (λ qs. IsChecked run_rules qs) (sym units) c.requires.checked) (activity_of f a) c.in_ok-activity.ensures.activity (marks_told f t) refl (λ name. refl))
 
@@ -28,5 +28,5 @@ pub adjoint-requires-clause-splits : goal.adjoint-requires-clause-splits
 adjoint-requires-clause-splits c =
     let f = c.args.flow.now in
     let a = c.in_ok-activity.activity in
-    let t : Marks = record { activity = a; kept = record { kept = c.in_ok-flags.field-0; entry = c.in_ok-flags-2.field-0 }; saved = record { saved = c.in_ok-flags-3.field-0 } } in
+    let t : Marks = record { activity = a; kept = record { kept = c.in_ok-flags.field-0; entry = c.in_ok-flags-2.field-0 }; saved = record { saved = c.in_ok-bits.field-0 } } in
     unsplit_may true (marks_told f t) (λ n. ap (λ b. b && (activity_of f a).adjointed n) (c.requires.unsplit n)) (procedures_of c.args.checked.now.program) (procedures_of c.args.checked.now.program)

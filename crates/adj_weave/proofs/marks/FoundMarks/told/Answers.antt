@@ -28,7 +28,7 @@ returns c =
     let at : At f.parts.items k p = record { within = c.requires.unit; is = c.index-parts-unit.is ∙ ap (λ ps. get_or ps k p) c.as_slice-parts.ensures.value } in
     let own : slice_index_or (variables_of f) k [] ≡ p.variables.now = unit_variables f k p at in
     record {
-      told = c.in_ok-flag.ensures.told
+      told = c.told-flag.ensures.told
           ∙ ap (λ vs. flag_at c.args.flags.now (node_in f.width (map plain vs) (k, x))) (sym own)
           ∙ sym (told_taken (flag f.taking) (variables_of f) c.args.flags.now f.width (units_of f) k x taken within);
     }
