@@ -1,5 +1,5 @@
 -- A machine that pushes and pops words ends as the run does.
-use Rattle.std.proofs.Common.{◌≡◌, ℕ, zero, suc, ◌+◌, ◌-◌, ◌<◌, ◌≤◌, true, false, List, [], ◌∷◌, length, get_or, refl, sym, ap, subst, ◌∙◌, arith, if◌then◌else◌}
+use Rattle.std.proofs.Common.{◌≡◌, ℕ, zero, suc, ◌+◌, ◌-◌, ◌<◌, ◌≤◌, true, false, List, [], ◌∷◌, length, get_or, Box, Global, refl, sym, ap, subst, ◌∙◌, arith, if◌then◌else◌}
 use Rattle.std.specs.Prelude.{nat_lt, Ok, Err, Option}
 use Rattle.adj_tree.specs.Code.{Var}
 use Rattle.adj_tree.specs.declared.value.Trap.TheVariants as trap
@@ -154,7 +154,7 @@ module _ {C : Type 0} {numbers : Numbers C} where
         subst (λ (z : Machine C). Ends e (λ i. Done (begun (setting_at e) l k s) i) m.left (Ok tt) z) (sym p) (done_at_once e m (record m { tally = t }) (begun (setting_at e) l k s) held refl)
 
     -- what a machine has in hand has nothing to do with the schedule that was asked
-    pub holds_cursor : (m m' : Machine C) (o : Option Plan) (s : Scene C) → m' ≡ record m { cursor = o } → Holds e m s → Holds e m' s
+    pub holds_cursor : (m m' : Machine C) (o : Option (Box Plan Global)) (s : Scene C) → m' ≡ record m { cursor = o } → Holds e m s → Holds e m' s
     holds_cursor m m' o s p h = subst (λ (z : Machine C). Holds e z s) (sym p) (record { room = h.room; level = h.level; base = h.base; shown = h.shown; tape = h.tape; opened = h.opened; told = h.told })
 
     -- none is open

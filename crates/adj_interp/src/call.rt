@@ -29,19 +29,27 @@ pub(crate) struct Outer<'a, N: Number> {
     pub frame: Frame<'a, N>,
     pub base: usize,
     pub level: u64,
-    pub cursor: Option<Cursor>,
+    pub cursor: Option<Box<Cursor>>,
 }
 
 impl<'a, N: Number> Machine<'a, N> {
-    /// The actuals of a call, from left to right.
-    pub(crate) fn actuals(&self, terms: &Terms, line: u32) -> Result<Vec<Actual<N>>, Stop>
+    /// The actuals of a call, from left to right: as many as dummies, in most calls.
+    pub(crate) fn actuals(
+        &self,
+        routine: &Routine<'_>,
+        terms: &Terms,
+        line: u32,
+    ) -> Result<Vec<Actual<N>>, Stop>
         requires framed { IsFrame self.now.frame.names.now self.now.frame.slots.items }
         requires below { AreTermsBelow (length self.now.frame.names.now) terms.now }
         ensures actuals { (shape : Var → Shape) (room : Option ℕ) (level : ℕ) (s : Store N) → Shows N.numbers self.now.frame.names.now self.now.frame.slots.items shape s
             → Gets (λ v. actuals_in self.now.frame.names.now shape s v.items) line (actuals (on_numbers N.numbers shape room level) (terms_in self.now.frame.names.now terms.now) s) result }
         ensures below { IfOk result (λ v. AreActualsBelow self.now.frame.slots.items v.items) }
     {
-        let mut found = Vec::new(self.alloc);
+        let many = routine.unit.dummies.as_slice().len();
+        let Ok(mut found) = Vec::with_capacity(self.alloc, many) else {
+            return Err(Stop::Memory);
+        };
         let mut current = terms;
         while let Terms::More(first, rest) = current {
             let actual = self.actual(first, line)?;
@@ -134,27 +142,27 @@ impl<'a, N: Number> Machine<'a, N> {
         (mem::replace(&mut self.frame, outer.frame), is_closed)
     }
 
-    /// Copies the dummies that are written out to their actuals. A whole variable has as many cells as its dummy.
+    /// Hands the dummies that are written back to their actuals. A whole variable has as many cells as its dummy.
     pub(crate) fn hand_back(
         &mut self,
         routine: &Routine<'a>,
         actuals: &[Actual<N>],
-        inner: &Frame<'a, N>,
+        mut inner: Frame<'a, N>,
     )
         requires framed { IsFrame self.old.frame.names.now self.old.frame.slots.items }
         requires below { AreActualsBelow self.old.frame.slots.items actuals.now }
         requires laid { IsLaidOut routine.now }
-        requires inner { IsFrame routine.now.names inner.now.slots.items }
-        requires large { AreAsLarge (length routine.now.unit.now.dummies) (counts_in self.old.frame.slots.items) actuals.now (counts_in inner.now.slots.items) }
+        requires inner { IsFrame routine.now.names inner.slots.items }
+        requires large { AreAsLarge (length routine.now.unit.now.dummies) (counts_in self.old.frame.slots.items) actuals.now (counts_in inner.slots.items) }
         ensures names { self.new.frame.names.now ≡ self.old.frame.names.now }
         ensures framed { IsFrame self.old.frame.names.now self.new.frame.slots.items }
         ensures counts { counts_in self.new.frame.slots.items ≡ counts_in self.old.frame.slots.items }
         ensures left { self.new.left ≡ self.old.left }
         ensures same { self.new ≡ record self.old { frame = self.new.frame } }
-        ensures handed { (shape within : Var → Shape) (s s0 t : Store N) → Shows N.numbers self.old.frame.names.now self.old.frame.slots.items shape s → Shows N.numbers routine.now.names inner.now.slots.items within t
+        ensures handed { (shape within : Var → Shape) (s s0 t : Store N) → Shows N.numbers self.old.frame.names.now self.old.frame.slots.items shape s → Shows N.numbers routine.now.names inner.entry.slots.items within t
             → Shows N.numbers self.old.frame.names.now self.new.frame.slots.items shape (copied_out routine.now.unit.now.dummies routine.now.writes.now (actuals_in self.old.frame.names.now shape s0 actuals.now) t s) }
     {
         self.frame
-            .hand_back(routine, actuals, inner.slots.as_slice());
+            .hand_back(routine, actuals, inner.slots.as_mut_slice());
     }
 }

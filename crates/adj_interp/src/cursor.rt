@@ -6,6 +6,7 @@ ghost use Rattle.adj_interp.specs.Tallied.{Plan, planned};
 
 use adj_revolve::{Action, Schedule};
 use adj_revolve_count::action;
+use std::alloc::Global;
 use std::marker::Model;
 
 /// The most actions that are gone through to one of them.
@@ -108,5 +109,36 @@ impl Cursor {
         skip(&mut self.rest, before);
         self.given = number;
         self.rest.next()
+    }
+}
+
+/// The action of a number, counted from 1, in the schedule of so many steps and snapshots: by the cursor that is kept, where
+/// it goes through this schedule, and else by another, which is kept in its place as far as memory allows. It stands on the
+/// heap, so that a call moves no more than its place.
+pub(crate) fn action_by(
+    alloc: Global,
+    kept: &mut Option<Box<Cursor>>,
+    steps: u64,
+    snapshots: u32,
+    number: u64,
+) -> Option<Action>
+    requires some { 0 < snapshots }
+    requires few { snapshots ≤ 64 }
+    requires within { steps ≤ 2 ^ 40 }
+    requires counted { 0 < number }
+    ensures { result ≡ slice_get (planned (record { steps = steps; snapshots = snapshots })) (number - 1) }
+{
+    match kept.take() {
+        Some(mut cursor) if cursor.is_of(steps, snapshots) => {
+            let action = cursor.action(number);
+            *kept = Some(cursor);
+            action
+        }
+        _ => {
+            let mut cursor = Cursor::new(steps, snapshots);
+            let action = cursor.action(number);
+            *kept = Box::new(alloc, cursor).ok();
+            action
+        }
     }
 }

@@ -37,7 +37,7 @@ pub struct Machine<'a, N: Number> {
     pub tape: Tape<N>,
     pub left: u64,
     pub tally: Tally,
-    pub cursor: Option<Cursor>,
+    pub cursor: Option<Box<Cursor>>,
     pub alloc: Global,
 }
 
@@ -261,7 +261,7 @@ impl<'a, N: Number> Machine<'a, N> {
             return Err(Stop::Trap(Trap::Shape, line));
         }
         let routine = &program[number];
-        let actuals = self.actuals(terms, line)?;
+        let actuals = self.actuals(routine, terms, line)?;
         let frame = self.entry(routine, actuals.as_slice(), line)?;
         let outer = self.enter(frame)?;
         let ended = self.run(program, depth - 1, &routine.body);
@@ -270,7 +270,7 @@ impl<'a, N: Number> Machine<'a, N> {
         if !is_closed {
             return Err(Stop::Trap(Trap::Schedule, line));
         }
-        self.hand_back(routine, actuals.as_slice(), &inner);
+        self.hand_back(routine, actuals.as_slice(), inner);
         Ok(())
     }
 

@@ -12,7 +12,7 @@ ghost use Rattle.adj_interp_frame.specs.Framed.{result_of, IsFrame};
 ghost use Rattle.adj_interp_frame.specs.Suited.{counts_in};
 ghost use Rattle.adj_interp.specs.Held.{Entry, setting_at, Holds, Ends, Finds, plan_in, action_in, given_in};
 
-use crate::cursor::Cursor;
+use crate::cursor::action_by;
 use crate::machine::Machine;
 use crate::stop::Stop;
 use adj_interp_frame::Term;
@@ -96,19 +96,6 @@ fn upper_of(action: &Action) -> i64
     }
 }
 
-// The schedule that was asked last, where it is of so many steps and snapshots, else that schedule from its start.
-fn resumed(cursor: Option<Cursor>, steps: u64, snapshots: u32) -> Cursor
-    requires some { 0 < snapshots }
-    requires few { snapshots ≤ 64 }
-    requires within { steps ≤ 2 ^ 40 }
-    ensures { result ≡ record { steps = steps; snapshots = snapshots } }
-{
-    match cursor {
-        Some(cursor) if cursor.is_of(steps, snapshots) => cursor,
-        _ => Cursor::new(steps, snapshots),
-    }
-}
-
 impl<'a, N: Number> Machine<'a, N> {
     // The steps and snapshots of a schedule.
     fn plan(&self, steps: &Term, snapshots: &Term, line: u32) -> Result<(u64, u32), Stop>
@@ -134,10 +121,7 @@ impl<'a, N: Number> Machine<'a, N> {
         let steps = steps_of(steps)?;
         let snapshots = snapshots_of(snapshots)?;
         let number = ordinal(number)?;
-        let mut cursor = resumed(self.cursor.take(), steps, snapshots);
-        let action = cursor.action(number);
-        self.cursor = Some(cursor);
-        action.ok_or(Trap::Schedule)
+        action_by(self.alloc, &mut self.cursor, steps, snapshots, number).ok_or(Trap::Schedule)
     }
 
     // The action that is asked for.

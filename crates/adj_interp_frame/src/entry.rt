@@ -191,8 +191,8 @@ impl<'a, N: Number> Frame<'a, N> {
         ensures unfit { result ≡ Err unfit.Shape → (shape : Var → Shape) (s : Store N) → Shows N.numbers self.now.names.now self.now.slots.items shape s
             → fit_from N.numbers routine.now (actuals_in self.now.names.now shape s actuals.now) 0 ≡ false }
     {
-        let mut slots = Vec::new(alloc);
         let count = routine.names.as_slice().len();
+        let mut slots = Vec::with_capacity(alloc, count)?;
         for i in 0..count {
             let slot = self.entry_slot(alloc, routine, actuals, i)?;
             slots.push(slot)?;

@@ -8,6 +8,7 @@ ghost use Rattle.adj_interp_frame.specs.Framed.{result_of, slot_shape, IsSlot, z
 use adj_number::Number;
 use adj_tree::{Memory, Trap};
 use std::alloc::Global;
+use std::mem;
 
 /// Rows, columns and cells, column by column. A scalar has no rows, no columns and one cell, a list no columns.
 #[derive(Drop)]
@@ -59,7 +60,7 @@ impl<N: Number> Slot<N> {
         ensures shape { IfOk result (λ v. slot_shape v ≡ slot_shape self.now) }
         ensures cells { IfOk result (λ v. v.cells.items ≡ self.now.cells.items) }
     {
-        let cells = self.cells.as_slice().to_vec(alloc)?;
+        let cells = Vec::from_slice(alloc, self.cells.as_slice())?;
         Ok(Slot {
             rows: self.rows,
             cols: self.cols,
@@ -67,13 +68,12 @@ impl<N: Number> Slot<N> {
         })
     }
 
-    /// Takes the cells of another slot, which are as many.
-    pub(crate) fn take(&mut self, other: &Slot<N>)
-        requires { length self.old.cells.items ≡ length other.now.cells.items }
+    /// Takes the cells of another slot, which gets its own.
+    pub(crate) fn take(&mut self, other: &mut Slot<N>)
         ensures shape { slot_shape self.new ≡ slot_shape self.old }
-        ensures cells { self.new.cells.items ≡ other.now.cells.items }
+        ensures cells { self.new.cells.items ≡ other.old.cells.items }
     {
-        self.cells.copy_from_slice(other.cells.as_slice());
+        mem::swap(&mut self.cells, &mut other.cells);
     }
 
     /// Puts 0 into each cell.

@@ -3,4 +3,4 @@ use Rattle.adj_interp_frame.specs.Shown.{Shows}
 use Rattle.adj_interp.proofs.machine.Machine.hand_back.Goals as goal
 
 pub returns-clause-handed : goal.returns-clause-handed
-returns-clause-handed g c shape within s s0 t h q = c.hand_back.ensures.handed shape within s s0 t h (subst (λ vs. Shows g.N.Number.numbers c.args.routine.now.names vs within t) (sym c.as_slice.ensures.value) q)
+returns-clause-handed g c shape within s s0 t h q = c.hand_back.ensures.handed shape within s s0 t h (subst (λ vs. Shows g.N.Number.numbers c.args.routine.now.names vs within t) (sym c.as_mut_slice.ensures.value) q)

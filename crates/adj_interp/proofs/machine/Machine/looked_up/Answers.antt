@@ -25,4 +25,4 @@ returns-clause-within g c =
     let l = c.in_ok-steps.steps in
     let k = c.in_ok-snapshots.snapshots in
     let at = c.in_ok-number.number - 1 in
-    found_within l k at c.action-action.result c.ok_or.result c.in_ok-snapshots.ensures.some c.in_ok-steps.ensures.within (c.action-action.ensures.action ∙ ap (λ (z : Plan). slice_get (planned z) at) c.resumed-cursor.ensures) c.ok_or.ensures.ok_part
+    found_within l k at c.action_by.result c.ok_or.result c.in_ok-snapshots.ensures.some c.in_ok-steps.ensures.within c.action_by.ensures c.ok_or.ensures.ok_part

@@ -1,5 +1,5 @@
--- The slots show what is handed back so far.
-use Rattle.std.proofs.Common.{◌≡◌, ℕ, length, get_or}
+-- The slots show what is handed back so far, and the dummies from the next on stand as they stood.
+use Rattle.std.proofs.Common.{◌≡◌, ◌≤◌, ℕ, length, get_or}
 use Rattle.adj_tree.specs.Code.{Var}
 use Rattle.def_meaning.specs.Store.{Shape, Store}
 use Rattle.def_meaning.specs.Units.{copied_out}
@@ -18,6 +18,8 @@ invariant-loop-i g l = record {
   count : length l.self.slots.items ≡ length l.initial.self.slots.items;
   cells : (j : ℕ) (d : Slot _) → length (get_or l.self.slots.items j d).cells.items ≡ length (get_or l.initial.self.slots.items j d).cells.items;
   counts : counts_in l.self.slots.items ≡ counts_in l.initial.self.slots.items;
-  handed : (shape inside : Var → Shape) (s s0 t : Store g.row.N.Denot) → Shows g.N.Number.numbers l.initial.self.names.now l.initial.self.slots.items shape s → Shows g.N.Number.numbers l.routine.names l.slots inside t
+  many : length l.slots ≡ length l.initial.slots;
+  rest : (j : ℕ) (d : Slot _) → l.i ≤ j → get_or l.slots j d ≡ get_or l.initial.slots j d;
+  handed : (shape inside : Var → Shape) (s s0 t : Store g.row.N.Denot) → Shows g.N.Number.numbers l.initial.self.names.now l.initial.self.slots.items shape s → Shows g.N.Number.numbers l.routine.names l.initial.slots inside t
       → Comes g.N.Number.numbers l.initial.self.names.now l.self.slots.items shape (copied_out l.routine.unit.now.dummies l.routine.writes.now (actuals_in l.initial.self.names.now shape s0 l.actuals) t s) (from_on l.routine (actuals_in l.initial.self.names.now shape s0 l.actuals) t l.i);
 }

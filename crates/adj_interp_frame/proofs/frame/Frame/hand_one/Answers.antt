@@ -10,15 +10,6 @@ use Rattle.adj_interp_frame.proofs.Setting.{kept_frame, kept_sizes, kept_counts,
 use Rattle.adj_interp_frame.proofs.Suiting.{count_at}
 use Rattle.adj_interp_frame.proofs.frame.Frame.hand_one.Goals as goal
 
--- the cells of the variable, which are as many as the dummy's
-pub take-requires : goal.take-requires
-take-requires g c =
-    let i = c.in-Whole.i in
-    let r = c.index_mut-target.result.now in
-    let below = rw c.in-Whole.is at c.requires.below in
-    let large = rw c.in-Whole.is at c.requires.large in
-    ap (λ (v : Slot _). length v.cells.items) c.index_mut-target.ensures.value ∙ sym (count_at c.args.self.now.slots.items i r below) ∙ large
-
 pub returns-in-Whole-clause-framed : goal.returns-in-Whole-clause-framed
 returns-in-Whole-clause-framed g c =
     let vs = c.args.self.now.slots.items in
