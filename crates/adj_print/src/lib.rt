@@ -1,8 +1,8 @@
 //! The canonical text of a program.
 //!
 //! `text` writes a tree as `text_of` of def_text says (`specs/Text.antt` there): that is its contract. `into_text` lets the tree go meanwhile.
-//! The crate stands on the trees and on the definitions of texts. Characters of a statement are gathered first
-//! and then laid out in lines, so the cost is linear in the text.
+//! The crate stands on the trees and on the definitions of texts. The characters of a statement are gathered first, in
+//! one buffer that serves all statements, and then laid out line by line, so the cost is linear in the text.
 #![tactic(auto)]
 
 mod condition;

@@ -11,40 +11,39 @@ use crate::layout::push_statement;
 use crate::list::{push_count, push_name};
 use crate::runtime::{push_runtime_actuals, push_runtime_name};
 use adj_tree::{Act, Cond, Expr, Exprs, Mark, Memory, Name, Place, RunCall, Stmt, Stmts};
-use std::alloc::Global;
 use std::mem;
 
 fn push_assignment(
-    alloc: Global,
+    chars: &mut Vec<u8>,
     out: &mut Vec<u8>,
     place: &Place,
     value: &Expr,
 ) -> Result<(), Memory>
     ensures lines { OnOk result (out.new.items ≡ out.old.items ++ statement (place_text (plain place.now.name) (terms_of place.now.subs) ++ 61 ∷ term_text (term_of value.now))) }
 {
-    let mut chars = Vec::new(alloc);
-    push_place(&mut chars, place)?;
+    chars.clear();
+    push_place(chars, place)?;
     chars.push(b'=')?;
-    push_expr(&mut chars, value)?;
+    push_expr(chars, value)?;
     push_statement(out, chars.as_slice())
 }
 
-fn push_if(alloc: Global, out: &mut Vec<u8>, cond: &Cond) -> Result<(), Memory>
+fn push_if(chars: &mut Vec<u8>, out: &mut Vec<u8>, cond: &Cond) -> Result<(), Memory>
     ensures lines { OnOk result (out.new.items ≡ out.old.items ++ statement (codes "IF (" ++ test_text (test_of cond.now) ++ codes ") THEN")) }
 {
-    let mut chars = Vec::new(alloc);
+    chars.clear();
     chars.extend_from_slice(b"IF (")?;
-    push_cond(&mut chars, cond)?;
+    push_cond(chars, cond)?;
     chars.extend_from_slice(b") THEN")?;
     push_statement(out, chars.as_slice())
 }
 
-fn push_while(alloc: Global, out: &mut Vec<u8>, cond: &Cond) -> Result<(), Memory>
+fn push_while(chars: &mut Vec<u8>, out: &mut Vec<u8>, cond: &Cond) -> Result<(), Memory>
     ensures lines { OnOk result (out.new.items ≡ out.old.items ++ statement (codes "DO WHILE (" ++ test_text (test_of cond.now) ++ codes ")")) }
 {
-    let mut chars = Vec::new(alloc);
+    chars.clear();
     chars.extend_from_slice(b"DO WHILE (")?;
-    push_cond(&mut chars, cond)?;
+    push_cond(chars, cond)?;
     chars.push(b')')?;
     push_statement(out, chars.as_slice())
 }
@@ -87,7 +86,7 @@ fn push_step(out: &mut Vec<u8>, step: &Expr) -> Result<(), Memory>
 }
 
 fn push_do(
-    alloc: Global,
+    chars: &mut Vec<u8>,
     out: &mut Vec<u8>,
     var: &Name,
     first: &Expr,
@@ -96,92 +95,97 @@ fn push_do(
 ) -> Result<(), Memory>
     ensures lines { OnOk result (out.new.items ≡ out.old.items ++ statement (codes "DO " ++ var.now ++ 61 ∷ term_text (term_of first.now) ++ 44 ∷ term_text (term_of limit.now) ++ step_text (term_of step.now))) }
 {
-    let mut chars = Vec::new(alloc);
+    chars.clear();
     chars.extend_from_slice(b"DO ")?;
-    push_name(&mut chars, var)?;
+    push_name(chars, var)?;
     chars.push(b'=')?;
-    push_expr(&mut chars, first)?;
+    push_expr(chars, first)?;
     chars.push(b',')?;
-    push_expr(&mut chars, limit)?;
-    push_step(&mut chars, step)?;
+    push_expr(chars, limit)?;
+    push_step(chars, step)?;
     push_statement(out, chars.as_slice())
 }
 
-fn push_call(alloc: Global, out: &mut Vec<u8>, name: &Name, actuals: &Exprs) -> Result<(), Memory>
+fn push_call(
+    chars: &mut Vec<u8>,
+    out: &mut Vec<u8>,
+    name: &Name,
+    actuals: &Exprs,
+) -> Result<(), Memory>
     ensures lines { OnOk result (out.new.items ≡ out.old.items ++ call_text name.now (term_texts (terms_of actuals.now))) }
 {
-    let mut chars = Vec::new(alloc);
+    chars.clear();
     chars.extend_from_slice(b"CALL ")?;
-    push_name(&mut chars, name)?;
-    push_exprs(&mut chars, actuals)?;
+    push_name(chars, name)?;
+    push_exprs(chars, actuals)?;
     push_statement(out, chars.as_slice())
 }
 
-fn push_runtime(alloc: Global, out: &mut Vec<u8>, call: &RunCall) -> Result<(), Memory>
+fn push_runtime(chars: &mut Vec<u8>, out: &mut Vec<u8>, call: &RunCall) -> Result<(), Memory>
     ensures lines { OnOk result (out.new.items ≡ out.old.items ++ call_text (runtime_name (runtime_of call.now)) (runtime_actuals (runtime_of call.now))) }
 {
-    let mut chars = Vec::new(alloc);
+    chars.clear();
     chars.extend_from_slice(b"CALL ")?;
-    push_runtime_name(&mut chars, call)?;
-    push_runtime_actuals(&mut chars, call)?;
+    push_runtime_name(chars, call)?;
+    push_runtime_actuals(chars, call)?;
     push_statement(out, chars.as_slice())
 }
 
 #[cycle(push)]
-fn push_stmt(alloc: Global, out: &mut Vec<u8>, stmt: &Stmt) -> Result<(), Memory>
+fn push_stmt(chars: &mut Vec<u8>, out: &mut Vec<u8>, stmt: &Stmt) -> Result<(), Memory>
     ensures lines { OnOk result (out.new.items ≡ out.old.items ++ act_text (act_of stmt.now.act)) }
 {
     match &stmt.act {
-        Act::Assign(place, value) => push_assignment(alloc, out, place, value),
+        Act::Assign(place, value) => push_assignment(chars, out, place, value),
         Act::If(cond, then, other) => {
-            push_if(alloc, out, cond)?;
-            push_stmts(alloc, out, then)?;
-            push_else(alloc, out, other)?;
+            push_if(chars, out, cond)?;
+            push_stmts(chars, out, then)?;
+            push_else(chars, out, other)?;
             push_statement(out, b"END IF")
         }
         Act::Loop(var, first, limit, step, body, mark) => {
             push_directive(out, mark)?;
-            push_do(alloc, out, var, first, limit, step)?;
-            push_stmts(alloc, out, body)?;
+            push_do(chars, out, var, first, limit, step)?;
+            push_stmts(chars, out, body)?;
             push_statement(out, b"END DO")
         }
         Act::While(cond, body) => {
-            push_while(alloc, out, cond)?;
-            push_stmts(alloc, out, body)?;
+            push_while(chars, out, cond)?;
+            push_stmts(chars, out, body)?;
             push_statement(out, b"END DO")
         }
-        Act::Call(name, actuals) => push_call(alloc, out, name, actuals),
-        Act::Run(call) => push_runtime(alloc, out, call),
+        Act::Call(name, actuals) => push_call(chars, out, name, actuals),
+        Act::Run(call) => push_runtime(chars, out, call),
     }
 }
 
 #[cycle(push)]
-fn push_else(alloc: Global, out: &mut Vec<u8>, other: &Stmts) -> Result<(), Memory>
+fn push_else(chars: &mut Vec<u8>, out: &mut Vec<u8>, other: &Stmts) -> Result<(), Memory>
     ensures lines { OnOk result (out.new.items ≡ out.old.items ++ else_text (code_of other.now)) }
 {
     if let Stmts::More(row) = other {
         push_statement(out, b"ELSE")?;
-        push_stmt(alloc, out, &row.first)?;
-        push_stmts(alloc, out, &row.rest)?;
+        push_stmt(chars, out, &row.first)?;
+        push_stmts(chars, out, &row.rest)?;
     }
     Ok(())
 }
 
 /// Adds the lines of statements in order.
 #[cycle(push)]
-pub fn push_stmts(alloc: Global, out: &mut Vec<u8>, list: &Stmts) -> Result<(), Memory>
+pub fn push_stmts(chars: &mut Vec<u8>, out: &mut Vec<u8>, list: &Stmts) -> Result<(), Memory>
     ensures lines { OnOk result (out.new.items ≡ out.old.items ++ code_text (code_of list.now)) }
 {
     let mut current = list;
     while let Stmts::More(row) = current {
-        push_stmt(alloc, out, &row.first)?;
+        push_stmt(chars, out, &row.first)?;
         current = &row.rest;
     }
     Ok(())
 }
 
 /// Adds the lines of statements in order, each of which is let go when its lines are there.
-pub fn push_each(alloc: Global, out: &mut Vec<u8>, list: Stmts) -> Result<(), Memory>
+pub fn push_each(chars: &mut Vec<u8>, out: &mut Vec<u8>, list: Stmts) -> Result<(), Memory>
     ensures lines { OnOk result (out.new.items ≡ out.old.items ++ code_text (code_of list)) }
 {
     let mut current = list;
@@ -189,7 +193,7 @@ pub fn push_each(alloc: Global, out: &mut Vec<u8>, list: Stmts) -> Result<(), Me
         let rest = match &mut current {
             Stmts::Empty => return Ok(()),
             Stmts::More(row) => {
-                push_stmt(alloc, out, &row.first)?;
+                push_stmt(chars, out, &row.first)?;
                 mem::replace(&mut row.rest, Stmts::Empty)
             }
         };

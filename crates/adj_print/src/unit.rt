@@ -16,17 +16,17 @@ use adj_tree::{Decl, Memory, Name, Program, Unit};
 use std::alloc::Global;
 
 fn push_heading(
-    alloc: Global,
+    chars: &mut Vec<u8>,
     out: &mut Vec<u8>,
     name: &Name,
     dummies: &[Name],
 ) -> Result<(), Memory>
     ensures lines { OnOk result (out.new.items ≡ out.old.items ++ statement (codes "SUBROUTINE " ++ name.now ++ bracketed dummies.now)) }
 {
-    let mut chars = Vec::new(alloc);
+    chars.clear();
     chars.extend_from_slice(b"SUBROUTINE ")?;
-    push_name(&mut chars, name)?;
-    push_names(&mut chars, dummies)?;
+    push_name(chars, name)?;
+    push_names(chars, dummies)?;
     push_statement(out, chars.as_slice())
 }
 
@@ -39,57 +39,58 @@ fn push_implicit(out: &mut Vec<u8>, none: bool) -> Result<(), Memory>
     Ok(())
 }
 
-fn push_decl(alloc: Global, out: &mut Vec<u8>, decl: &Decl) -> Result<(), Memory>
+fn push_decl(chars: &mut Vec<u8>, out: &mut Vec<u8>, decl: &Decl) -> Result<(), Memory>
     ensures lines { OnOk result (out.new.items ≡ out.old.items ++ declaration_text (declaration_of decl.now)) }
 {
-    let mut chars = Vec::new(alloc);
+    chars.clear();
     chars.extend_from_slice(b"INTEGER*8 ")?;
-    push_name(&mut chars, &decl.name)?;
-    push_extents(&mut chars, decl.extents.as_slice())?;
+    push_name(chars, &decl.name)?;
+    push_extents(chars, decl.extents.as_slice())?;
     push_statement(out, chars.as_slice())
 }
 
-fn push_decls(alloc: Global, out: &mut Vec<u8>, decls: &[Decl]) -> Result<(), Memory>
+fn push_decls(chars: &mut Vec<u8>, out: &mut Vec<u8>, decls: &[Decl]) -> Result<(), Memory>
     ensures lines { OnOk result (out.new.items ≡ out.old.items ++ flat_map declaration_text (map declaration_of decls.now)) }
 {
     for decl in decls {
-        push_decl(alloc, out, decl)?;
+        push_decl(chars, out, decl)?;
     }
     Ok(())
 }
 
 // The lines of a unit before its statements.
-fn push_opening(alloc: Global, out: &mut Vec<u8>, unit: &Unit) -> Result<(), Memory>
+fn push_opening(chars: &mut Vec<u8>, out: &mut Vec<u8>, unit: &Unit) -> Result<(), Memory>
     ensures lines { OnOk result (out.new.items ≡ out.old.items ++ opening_text (procedure_of unit.now)) }
 {
-    push_heading(alloc, out, &unit.name, unit.dummies.as_slice())?;
+    push_heading(chars, out, &unit.name, unit.dummies.as_slice())?;
     push_implicit(out, unit.none)?;
-    push_decls(alloc, out, unit.decls.as_slice())
+    push_decls(chars, out, unit.decls.as_slice())
 }
 
-fn push_unit(alloc: Global, out: &mut Vec<u8>, unit: &Unit) -> Result<(), Memory>
+fn push_unit(chars: &mut Vec<u8>, out: &mut Vec<u8>, unit: &Unit) -> Result<(), Memory>
     ensures lines { OnOk result (out.new.items ≡ out.old.items ++ procedure_text (procedure_of unit.now)) }
 {
-    push_opening(alloc, out, unit)?;
-    push_stmts(alloc, out, &unit.body)?;
+    push_opening(chars, out, unit)?;
+    push_stmts(chars, out, &unit.body)?;
     push_statement(out, b"END")
 }
 
 // A unit, whose statements are let go as they are written.
-fn push_last(alloc: Global, out: &mut Vec<u8>, unit: Unit) -> Result<(), Memory>
+fn push_last(chars: &mut Vec<u8>, out: &mut Vec<u8>, unit: Unit) -> Result<(), Memory>
     ensures lines { OnOk result (out.new.items ≡ out.old.items ++ procedure_text (procedure_of unit)) }
 {
-    push_opening(alloc, out, &unit)?;
-    push_each(alloc, out, unit.body)?;
+    push_opening(chars, out, &unit)?;
+    push_each(chars, out, unit.body)?;
     push_statement(out, b"END")
 }
 
 fn all_lines(alloc: Global, p: &Program) -> Result<Vec<u8>, Memory>
     ensures text { IfOk result (λ v. v.items ≡ text_of (procedures_of p.now)) }
 {
+    let mut chars = Vec::new(alloc);
     let mut out = Vec::new(alloc);
     for unit in p.units.as_slice() {
-        push_unit(alloc, &mut out, unit)?;
+        push_unit(&mut chars, &mut out, unit)?;
     }
     Ok(out)
 }
@@ -107,9 +108,10 @@ pub fn text(alloc: Global, p: &Program) -> Result<Vec<u8>, Memory>
 pub fn into_text(alloc: Global, p: Program) -> Result<Vec<u8>, Memory>
     ensures text { IfOk result (λ v. v.items ≡ text_of (procedures_of p)) }
 {
+    let mut chars = Vec::new(alloc);
     let mut out = Vec::new(alloc);
     for unit in p.units.into_vec() {
-        push_last(alloc, &mut out, unit)?;
+        push_last(&mut chars, &mut out, unit)?;
     }
     Ok(out)
 }

@@ -1,16 +1,23 @@
--- Each character is taken off those that are left; behind the last one the line ends.
-use Rattle.std.proofs.Common.{◌∙◌, ◌++◌, ap, sym}
-use Rattle.std.proofs.lemmas.List.{at_drop_more, at_drop_all}
+-- A full line is taken off what is left; the last line ends the statement.
+use Rattle.std.proofs.Common.{◌∙◌, ◌++◌, ◌∷◌, [], ap, append_assoc, arith, codes}
 use Rattle.def_text.specs.Text.{laid}
-use Rattle.adj_print.proofs.Laying.{laid-nil}
+use Rattle.adj_print.proofs.Laying.{full_line, last_line}
 use Rattle.adj_print.proofs.layout.push_statement.Goals as goal
 
-pub loop-c-preserved : goal.loop-c-preserved
-loop-c-preserved c =
-    let one = at_drop_more (λ cs. c.loop-c.out.items ++ laid c.loop-c.column cs) c.args.chars.now c.loop-c.c-index 0 c.loop-c-test.true in
-    record { within = c.in_ok-column.ensures.within; laid_so_far = c.in_ok-column.ensures.laid _ ∙ sym one ∙ c.loop-c.invariant.laid_so_far }
+pub loop-rest-init : goal.loop-rest-init
+loop-rest-init c = ap (λ xs. xs ++ laid 0 c.args.chars.now) c.in_ok-extend_from_slice.ensures.items ∙ append_assoc c.args.out.now.items (codes "      ") (laid 0 c.args.chars.now)
+
+pub loop-rest-smaller : goal.loop-rest-smaller
+loop-rest-smaller c = omega (arith, c.split_at.ensures.back_len)
+
+pub loop-rest-preserved : goal.loop-rest-preserved
+loop-rest-preserved c =
+    let l = c.loop-rest in
+    let line = c.in_ok-extend_from_slice-2.ensures.items ∙ ap (λ xs. l.out.items ++ xs) c.split_at.ensures.front in
+    let added = c.in_ok-extend_from_slice-3.ensures.items ∙ ap (λ xs. xs ++ codes "\n     +") line in
+    (λ i. added i ++ laid 0 (c.split_at.ensures.back i)) ∙ full_line l.out.items l.rest.now c.loop-rest-test.true ∙ l.invariant
 
 pub returns : goal.returns
 returns c =
-    let last = at_drop_all (λ cs. c.loop-c.out.items ++ laid c.loop-c.column cs) c.args.chars.now c.loop-c.c-index c.loop-c-test.false in
-    record { lines = c.in_ok-push.ensures.items ∙ ap (λ xs. c.loop-c.out.items ++ xs) (sym (laid-nil c.loop-c.column)) ∙ sym last ∙ c.loop-c.invariant.laid_so_far }
+    let l = c.loop-rest in
+    record { lines = c.in_ok-push.ensures.items ∙ ap (λ xs. xs ++ 10 ∷ []) c.in_ok-extend_from_slice-4.ensures.items ∙ last_line l.out.items l.rest.now (omega (arith, c.loop-rest-test.false)) ∙ l.invariant }
