@@ -1,5 +1,5 @@
 -- Names added one list after another.
-use Rattle.std.proofs.Common.{◌≡◌, ℕ, Bool, true, false, List, [], ◌∷◌, ◌++◌, refl, ap, sym, ◌∙◌, if◌then◌else◌}
+use Rattle.std.proofs.Common.{◌≡◌, ℕ, Bool, true, false, List, [], ◌∷◌, ◌++◌, refl, ap, ◌∙◌, if◌then◌else◌}
 use Rattle.def_meaning.specs.Apart.{has_name}
 use Rattle.adj_sets.specs.Sets.{with_added, all_added}
 use Rattle.std.specs.Prelude.{◌||◌}

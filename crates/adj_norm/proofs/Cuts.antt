@@ -4,8 +4,7 @@ use Rattle.std.proofs.lemmas.Bool.Decides.{nat_tests}
 use Rattle.std.proofs.lemmas.List.{get_or_append_left}
 use Rattle.std.proofs.Math.Seq.{get_or-append_seam}
 use Rattle.adj_tree.specs.Code.{Var, Term, Mark, unmarked, with_count, count_from, loop, Code, Procedure}
-use Rattle.def_names.specs.Fresh.{fresh}
-use Rattle.def_kernel.specs.Stepped.{marked_in_act, wanted_step, step_names, step_name, cut_act, step_units_in_act}
+use Rattle.def_kernel.specs.Stepped.{marked_in_act, step_names, step_name, cut_act, step_units_in_act}
 use Rattle.adj_norm.specs.Source.{Knows, marked_body, cut_body, units_of_loop}
 use Rattle.adj_norm.specs.declared.source.Source.{Source}
 

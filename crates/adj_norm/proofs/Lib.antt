@@ -5,3 +5,4 @@ pub mod Sources
 pub mod Rows
 pub mod Cuts
 pub mod Programs
+pub mod Unmarked

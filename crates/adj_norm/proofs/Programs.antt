@@ -6,7 +6,7 @@ use Rattle.def_meaning.specs.Apart.{has_name}
 use Rattle.def_names.specs.Fresh.{fresh}
 use Rattle.def_kernel.specs.Kernel.{names_of}
 use Rattle.def_kernel.specs.Stepped.{marked_in, once_each, variables_of, wanted_step, step_names}
-use Rattle.adj_sets.specs.Sets.{with_added, all_added}
+use Rattle.adj_sets.specs.Sets.{all_added}
 use Rattle.adj_sets.proofs.NameSets.{has-behind, with_added_is}
 use Rattle.adj_naming.proofs.Added.{or_comm, fresh_alike}
 use Rattle.adj_norm.specs.Programs.{AreAlike, taken_after}

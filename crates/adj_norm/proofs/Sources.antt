@@ -1,7 +1,7 @@
 -- The dummies of step units.
-use Rattle.std.proofs.Common.{◌≡◌, ℕ, Bool, true, false, List, [], ◌∷◌, ◌++◌, map, refl, sym, ap, ◌∙◌, append_assoc, if◌then◌else◌}
+use Rattle.std.proofs.Common.{◌≡◌, ℕ, Bool, true, false, List, [], ◌∷◌, ◌++◌, map, refl, sym, ap, ◌∙◌, if◌then◌else◌}
 use Rattle.std.specs.Prelude.{◌||◌}
-use Rattle.adj_tree.specs.Code.{plain, name_eq, var, Term, Terms, none, more, Extent, fixed, given, Declaration}
+use Rattle.adj_tree.specs.Code.{plain, name_eq, var, none, more, Extent, fixed, given, Declaration}
 use Rattle.adj_tree.specs.Listed.{terms_onto}
 use Rattle.adj_tree.proofs.Names.{name_refl, name_same}
 use Rattle.def_meaning.specs.Units.{declared}
@@ -10,7 +10,7 @@ use Rattle.def_meaning.specs.Apart.{has_name}
 use Rattle.def_sweep.specs.Declared.{declaration}
 use Rattle.def_names.proofs.Variables.{or_assoc, or_right}
 use Rattle.def_meaning.proofs.Variables.{name_comm}
-use Rattle.def_kernel.specs.Stepped.{is_extent_of, used_among, as_actuals, step_declarations}
+use Rattle.def_kernel.specs.Stepped.{is_extent_of, used_among, as_actuals}
 use Rattle.adj_sets.specs.Sets.{with_added, all_added}
 use Rattle.adj_sets.proofs.NameSets.{has-behind, with_added_is}
 use Rattle.adj_naming.proofs.Added.{once_same}

@@ -8,7 +8,7 @@ ghost use Rattle.def_kernel.specs.Kernel.{unit_name, lowered_program};
 ghost use Rattle.law_kernel.specs.Sound.{IsAccepted};
 ghost use Rattle.def_kernel.specs.Stepped.{marked_in, step_names, stepped_unit, names_of_source, stepped_program, kernel_of};
 ghost use Rattle.adj_sets.specs.Sets.{all_added};
-ghost use Rattle.adj_norm.specs.Programs.{AreAlike};
+ghost use Rattle.adj_norm.specs.Programs.{AreAlike, are_unmarked};
 ghost use Rattle.adj_norm.specs.Source.{Knows};
 
 use crate::cutting::cut;
@@ -165,14 +165,38 @@ pub fn lowered(alloc: Global, units: &[Unit]) -> Result<Vec<Unit>, Memory>
     Ok(made)
 }
 
+// Whether no loop is marked in any of these units.
+fn are_unmarked(units: &[Unit]) -> Result<bool, Memory>
+    ensures unmarked { IfOk result (λ b. b ≡ are_unmarked (map procedure_of units.now)) }
+{
+    for unit in units {
+        let count = marked_in(&unit.body)?;
+        if count != 0 {
+            return Ok(false);
+        }
+    }
+    Ok(true)
+}
+
+// The units of the kernel. Where no loop is marked, the units are their own step, and are lowered as they are.
+fn kernel_units(alloc: Global, units: &[Unit]) -> Result<Vec<Unit>, Memory>
+    ensures kernel { IfOk result (λ v. map procedure_of v.items ≡ kernel_of (map procedure_of units.now)) }
+{
+    if are_unmarked(units)? {
+        let made = lowered(alloc, units)?;
+        return Ok(made);
+    }
+    let units = stepped(alloc, units)?;
+    lowered(alloc, units.as_slice())
+}
+
 /// The kernel of a program, exactly. Where the program is accepted as a text of a user, the kernel has no fault as a text that is run,
 /// so a check never refuses it.
 pub fn kernel(alloc: Global, program: &Program) -> Result<Program, Memory>
     ensures kernel { IfOk result (λ p. procedures_of p ≡ kernel_of (procedures_of program.now)) }
     ensures sound { IfOk result (λ p. IsAccepted (procedures_of program.now) → IsSound run_rules (procedures_of p)) }
 {
-    let units = stepped(alloc, program.units.as_slice())?;
-    let made = lowered(alloc, units.as_slice())?;
+    let made = kernel_units(alloc, program.units.as_slice())?;
     Ok(Program {
         units: Items::new(made),
     })

@@ -1,4 +1,4 @@
-use Rattle.std.proofs.Common.{◌≡◌, ◌∙◌, ◌<◌, get_or, ap, arith}
+use Rattle.std.proofs.Common.{◌≡◌, ◌∙◌, ◌<◌, ap, arith}
 use Rattle.adj_tree.specs.Code.{call}
 use Rattle.def_kernel.specs.Stepped.{as_actuals, step_name}
 use Rattle.adj_norm.proofs.Cuts.{known_name}

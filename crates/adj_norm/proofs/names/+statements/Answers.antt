@@ -1,4 +1,4 @@
-use Rattle.std.proofs.Common.{◌≡◌, ◌++◌, ap, sym, ◌∙◌, arith}
+use Rattle.std.proofs.Common.{◌≡◌, ap, sym, ◌∙◌, arith}
 use Rattle.adj_tree.specs.Code.{step}
 use Rattle.adj_tree.specs.View.{act_of, code_of}
 use Rattle.adj_tree.specs.declared.stmt.Act.TheViews.{sized-More, size_is-Row}

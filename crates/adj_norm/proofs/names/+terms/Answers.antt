@@ -1,4 +1,4 @@
-use Rattle.std.proofs.Common.{◌≡◌, ◌++◌, ap, sym, ◌∙◌, arith}
+use Rattle.std.proofs.Common.{◌≡◌, ap, sym, ◌∙◌, arith}
 use Rattle.adj_tree.specs.Code.{more}
 use Rattle.adj_tree.specs.View.{term_of, terms_of}
 use Rattle.adj_tree.specs.declared.expr.Expr.TheViews.{sized-More}

@@ -1,7 +1,6 @@
-use Rattle.std.proofs.Common.{◌≡◌, ◌∙◌, ◌++◌, ◌∷◌, [], map, ap, sym, append_assoc}
+use Rattle.std.proofs.Common.{◌≡◌, ◌∙◌, ◌++◌, ◌∷◌, [], map, ap, append_assoc}
 use Rattle.std.proofs.lemmas.List.{map_push}
-use Rattle.adj_tree.specs.Code.{Procedure}
-use Rattle.adj_tree.specs.View.{procedure_of, code_of}
+use Rattle.adj_tree.specs.View.{procedure_of}
 use Rattle.def_kernel.specs.Stepped.{cut, step_units_in}
 use Rattle.adj_norm.proofs.program.add_made.Goals as goal
 

@@ -1,8 +1,7 @@
 use Rattle.std.proofs.Common.{◌≡◌, ◌∙◌, ◌++◌, length, ap, sym, arith}
-use Rattle.adj_tree.specs.View.{procedure_of, code_of}
+use Rattle.adj_tree.specs.View.{procedure_of}
 use Rattle.def_meaning.specs.Apart.{has_name}
-use Rattle.def_kernel.specs.Stepped.{step_names, marked_in}
-use Rattle.adj_norm.specs.Source.{Knows}
+use Rattle.def_kernel.specs.Stepped.{step_names}
 use Rattle.adj_norm.proofs.Cuts.{length-step_names}
 use Rattle.adj_norm.proofs.Programs.{alike_behind, step_names_alike, variables_added}
 use Rattle.adj_norm.proofs.program.add_stepped.Goals as goal

@@ -1,5 +1,5 @@
-use Rattle.std.proofs.Common.{◌≡◌, ◌∙◌, ◌+◌, ◌++◌, ◌∷◌, [], map, take, refl, ap, sym, arith}
-use Rattle.std.proofs.lemmas.List.{take_more, take_all, map_push}
+use Rattle.std.proofs.Common.{◌≡◌, ◌∙◌, ◌+◌, ◌++◌, ◌∷◌, [], map, take, ap, sym}
+use Rattle.std.proofs.lemmas.List.{take_more, map_push}
 use Rattle.adj_tree.specs.View.{procedure_of}
 use Rattle.def_names.specs.Reserved.{reserved}
 use Rattle.def_kernel.specs.Kernel.{lowered_unit}

@@ -1,5 +1,4 @@
-use Rattle.std.proofs.Common.{◌≡◌, ◌∙◌, ◌+◌, ◌++◌, ◌∷◌, [], map, drop, flat_map, ap, sym, arith}
-use Rattle.std.proofs.lemmas.List.{drop_all}
+use Rattle.std.proofs.Common.{◌∙◌, ◌+◌, [], map, drop, flat_map, ap, sym}
 use Rattle.adj_tree.specs.View.{procedure_of}
 use Rattle.def_kernel.specs.Kernel.{unit_name, names_of}
 use Rattle.adj_sets.specs.Sets.{all_added}

@@ -1,4 +1,4 @@
-use Rattle.std.proofs.Common.{◌≡◌, ◌∙◌, ◌+◌, ◌++◌, ◌∷◌, [], suc, refl, ap, sym, arith, codes, append-nil, append_assoc, add-one}
+use Rattle.std.proofs.Common.{◌≡◌, ◌∙◌, ◌++◌, ◌∷◌, [], suc, ap, sym, codes, append-nil, append_assoc, add-one}
 use Rattle.def_names.specs.Fresh.{fresh, digits}
 use Rattle.def_kernel.specs.Stepped.{wanted_step, step_names}
 use Rattle.adj_norm.proofs.program.step_names.Goals as goal

@@ -1,13 +1,12 @@
-use Rattle.std.proofs.Common.{◌≡◌, ◌∙◌, ◌+◌, ◌++◌, ◌∷◌, [], List, ℕ, map, take, drop, refl, ap, sym, arith, append-nil, append_assoc}
+use Rattle.std.proofs.Common.{◌≡◌, ◌∙◌, ◌+◌, ◌++◌, ◌∷◌, [], map, take, drop, ap, sym, arith, append-nil, append_assoc}
 use Rattle.std.proofs.lemmas.List.{take_more, drop_all, map_push}
-use Rattle.adj_tree.specs.Code.{Procedure}
 use Rattle.adj_tree.specs.View.{procedure_of}
 use Rattle.def_meaning.specs.Apart.{has_name}
 use Rattle.def_kernel.specs.Stepped.{names_of_source, stepped_from, stepped_unit}
 use Rattle.adj_sets.specs.Sets.{all_added}
 use Rattle.adj_naming.proofs.Added.{once_same}
 use Rattle.adj_naming.proofs.Places.{from_here}
-use Rattle.adj_norm.specs.Programs.{AreAlike, taken_after}
+use Rattle.adj_norm.specs.Programs.{taken_after}
 use Rattle.adj_norm.proofs.Programs.{taken_more}
 use Rattle.adj_norm.proofs.program.stepped.Goals as goal
 

@@ -1,4 +1,4 @@
-use Rattle.std.proofs.Common.{◌≡◌, ◌+◌, ◌∷◌, [], map, drop, ap, sym, ◌∙◌}
+use Rattle.std.proofs.Common.{◌+◌, ◌∷◌, [], map, drop, ap, sym, ◌∙◌}
 use Rattle.adj_tree.specs.View.{extent_of}
 use Rattle.adj_sets.specs.Sets.{all_added}
 use Rattle.adj_naming.proofs.Places.{from_here}

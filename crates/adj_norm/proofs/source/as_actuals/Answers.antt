@@ -1,7 +1,6 @@
 use Rattle.std.proofs.Common.{◌≡◌, map, take, ap, ◌∙◌, arith}
 use Rattle.std.proofs.lemmas.List.{take_all}
 use Rattle.adj_tree.specs.Code.{var, plain, none}
-use Rattle.adj_tree.specs.View.{term_of}
 use Rattle.adj_tree.specs.Listed.{terms_onto}
 use Rattle.adj_norm.proofs.Sources.{actuals_listed}
 use Rattle.adj_norm.proofs.source.as_actuals.Goals as goal

@@ -1,10 +1,10 @@
-use Rattle.std.proofs.Common.{◌≡◌, ◌+◌, ◌++◌, ◌∷◌, [], List, map, drop, refl, ap, sym, ◌∙◌}
-use Rattle.adj_tree.specs.Code.{plain, Extent, Declaration}
+use Rattle.std.proofs.Common.{◌≡◌, ◌+◌, map, drop, ap, sym, ◌∙◌}
+use Rattle.adj_tree.specs.Code.{plain, Declaration}
 use Rattle.adj_tree.specs.View.{extent_of}
 use Rattle.def_meaning.specs.Units.{declared}
 use Rattle.adj_sets.specs.Sets.{all_added}
 use Rattle.adj_naming.proofs.Places.{from_here}
-use Rattle.adj_norm.specs.Source.{extents_in, all_extents_in, Declares}
+use Rattle.adj_norm.specs.Source.{extents_in, all_extents_in}
 use Rattle.adj_norm.proofs.Adding.{added_both}
 use Rattle.adj_norm.proofs.Sources.{declared_extents}
 use Rattle.adj_norm.proofs.source.extents_of.Goals as goal

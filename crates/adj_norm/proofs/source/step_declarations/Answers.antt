@@ -1,10 +1,8 @@
-use Rattle.std.proofs.Common.{◌≡◌, ◌+◌, ◌++◌, ◌∷◌, [], List, map, drop, refl, ap, sym, ◌∙◌, append-nil, append_assoc, arith}
+use Rattle.std.proofs.Common.{◌≡◌, ◌+◌, ◌++◌, ◌∷◌, [], map, drop, ap, sym, ◌∙◌, append-nil, append_assoc, arith}
 use Rattle.std.proofs.lemmas.List.{map_push, drop_all}
-use Rattle.adj_tree.specs.Code.{Declaration}
 use Rattle.adj_tree.specs.View.{declaration_of}
 use Rattle.def_kernel.specs.Stepped.{step_declarations}
 use Rattle.adj_naming.proofs.Places.{from_here}
-use Rattle.adj_norm.specs.Source.{Declares}
 use Rattle.adj_norm.proofs.source.step_declarations.Goals as goal
 
 pub loop-x-init : goal.loop-x-init

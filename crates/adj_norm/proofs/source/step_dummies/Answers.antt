@@ -1,4 +1,4 @@
-use Rattle.std.proofs.Common.{◌≡◌, ◌∷◌, [], List, ℕ, ap, ◌∙◌}
+use Rattle.std.proofs.Common.{◌≡◌, ◌∷◌, [], ap, ◌∙◌}
 use Rattle.adj_tree.specs.View.{code_of}
 use Rattle.def_kernel.specs.Kernel.{names_in_code}
 use Rattle.adj_sets.specs.Sets.{all_added}

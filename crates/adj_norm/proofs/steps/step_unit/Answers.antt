@@ -1,5 +1,4 @@
 use Rattle.std.proofs.Common.{◌≡◌, ◌∙◌, ◌<◌, false, map, ap, arith, add-one}
-use Rattle.adj_tree.specs.Code.{plain}
 use Rattle.adj_tree.specs.View.{declaration_of, code_of}
 use Rattle.def_kernel.specs.Stepped.{step_name, step_declarations, cut}
 use Rattle.adj_norm.proofs.Cuts.{known_name}

@@ -1,4 +1,4 @@
-use Rattle.std.proofs.Common.{◌≡◌, ◌∙◌, ◌++◌, [], map, refl, ap, sym, append-nil}
+use Rattle.std.proofs.Common.{◌∙◌, map, refl, sym, append-nil}
 use Rattle.adj_tree.specs.View.{declaration_of}
 use Rattle.adj_norm_statement.specs.Locals.{local_by}
 use Rattle.adj_norm.proofs.Units.{local_declared}

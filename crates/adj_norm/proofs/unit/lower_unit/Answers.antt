@@ -1,13 +1,10 @@
-use Rattle.std.proofs.Common.{◌≡◌, ◌∙◌, ◌++◌, ℕ, List, map, ap, sym}
-use Rattle.adj_tree.specs.Code.{Procedure}
+use Rattle.std.proofs.Common.{◌≡◌, ◌∙◌, ◌++◌, map, ap}
 use Rattle.adj_tree.specs.View.{declaration_of, procedure_of, code_of}
 use Rattle.def_meaning.specs.Written.{handed_back}
-use Rattle.def_kernel.specs.Kernel.{unit_name, scalar_at, local_names, local_of, taken_in, local_in, lowered_unit}
+use Rattle.def_kernel.specs.Kernel.{scalar_at, local_names, taken_in, local_in}
 use Rattle.def_kernel.specs.Lowered.{lowered, locals_of}
-use Rattle.adj_naming.proofs.Added.{SameNames}
-use Rattle.adj_norm_statement.specs.Handed.{handed_by}
 use Rattle.adj_norm_statement.specs.Locals.{local_by}
-use Rattle.adj_norm.proofs.Units.{taken_alike, locals_alike, local_names_alike}
+use Rattle.adj_norm.proofs.Units.{taken_alike, locals_alike}
 use Rattle.adj_norm.proofs.unit.lower_unit.Goals as goal
 
 pub returns : goal.returns
