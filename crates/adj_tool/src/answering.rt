@@ -162,7 +162,7 @@ pub(crate) fn answer_program(
 ///    lines of calls that are to be split, or the first fault of the text.
 /// 2. `check` (adj_symbols) makes it a `Checked`: its names, calls, chains and writes have no fault.
 /// 3. `head` (adj_symbols) finds the unit that is asked for, with its independents and its dependents.
-/// 4. `checked_kernel` (adj_norm) writes the kernel, and checks it: one more `Checked`. The program is let go.
+/// 4. `checked_kernel` (adj_norm) writes the kernel, which a check would accept: one more `Checked`. The program is let go.
 /// 5. `plan` (adj_plan) analyses the kernel: its flow, and the marks of activity, liveness and of values to be recorded.
 /// 6. `adjoint` (adj_weave, here `emit`) writes the program of the adjoint by these marks. The marks and the kernel are let go.
 /// 7. `text` (adj_print) lays it out. The command `plan` ends with `plan_text` (adj_plan) in place of 6 and 7.
