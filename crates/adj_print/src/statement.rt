@@ -11,6 +11,7 @@ use crate::layout::push_statement;
 use crate::list::{push_count, push_name};
 use crate::runtime::{push_runtime_actuals, push_runtime_name};
 use adj_tree::{Act, Cond, Expr, Exprs, Mark, Memory, Name, Place, RunCall, Stmt, Stmts};
+use std::alloc::Global;
 use std::mem;
 
 fn push_assignment(
@@ -184,11 +185,24 @@ pub fn push_stmts(chars: &mut Vec<u8>, out: &mut Vec<u8>, list: &Stmts) -> Resul
     Ok(())
 }
 
-/// Adds the lines of statements in order, each of which is let go when its lines are there.
-pub fn push_each(chars: &mut Vec<u8>, out: &mut Vec<u8>, list: Stmts) -> Result<(), Memory>
+/// How many statements are let go until the buffer is taken anew.
+const TURN: usize = 256;
+
+/// The size of the buffer that is taken then.
+const BLOCK: usize = 1 << 16;
+
+/// Adds the lines of statements in order, each of which is let go when its lines are there. Now and then the buffer is taken anew:
+/// allocators join the small blocks that are free, and give memory back to the system, when a large block is taken and let go.
+pub fn push_each(
+    alloc: Global,
+    chars: &mut Vec<u8>,
+    out: &mut Vec<u8>,
+    list: Stmts,
+) -> Result<(), Memory>
     ensures lines { OnOk result (out.new.items ≡ out.old.items ++ code_text (code_of list)) }
 {
     let mut current = list;
+    let mut passed = 0usize;
     loop {
         let rest = match &mut current {
             Stmts::Empty => return Ok(()),
@@ -198,5 +212,9 @@ pub fn push_each(chars: &mut Vec<u8>, out: &mut Vec<u8>, list: Stmts) -> Result<
             }
         };
         current = rest;
+        passed = passed.wrapping_add(1);
+        if passed % TURN == 0 {
+            *chars = Vec::with_capacity(alloc, BLOCK)?;
+        }
     }
 }

@@ -76,11 +76,16 @@ fn push_unit(chars: &mut Vec<u8>, out: &mut Vec<u8>, unit: &Unit) -> Result<(), 
 }
 
 // A unit, whose statements are let go as they are written.
-fn push_last(chars: &mut Vec<u8>, out: &mut Vec<u8>, unit: Unit) -> Result<(), Memory>
+fn push_last(
+    alloc: Global,
+    chars: &mut Vec<u8>,
+    out: &mut Vec<u8>,
+    unit: Unit,
+) -> Result<(), Memory>
     ensures lines { OnOk result (out.new.items ≡ out.old.items ++ procedure_text (procedure_of unit)) }
 {
     push_opening(chars, out, &unit)?;
-    push_each(chars, out, unit.body)?;
+    push_each(alloc, chars, out, unit.body)?;
     push_statement(out, b"END")
 }
 
@@ -111,7 +116,7 @@ pub fn into_text(alloc: Global, p: Program) -> Result<Vec<u8>, Memory>
     let mut chars = Vec::new(alloc);
     let mut out = Vec::new(alloc);
     for unit in p.units.into_vec() {
-        push_last(&mut chars, &mut out, unit)?;
+        push_last(alloc, &mut chars, &mut out, unit)?;
     }
     Ok(out)
 }
