@@ -36,6 +36,10 @@ abbrev pub tale_of : List Tale → ReversedLines
 tale_of [] line = None
 tale_of (t ∷ ts) line = if line == t.0 then t.1 else tale_of ts line
 
+-- what the marked loops of a program tell, in the order of its units
+abbrev pub tales_of : ProgramFacts → List Procedure → List Tale
+tales_of w ps = let g = callee_facts w ps in told_units (schedules_by true g) g w.marks.adjointed 0 ps
+
 -- the marked loops of a program that are reversed by schedules, by their lines
 abbrev pub reversed_lines : ProgramFacts → List Procedure → ReversedLines
-reversed_lines w ps = let g = callee_facts w ps in tale_of (told_units (schedules_by true g) g w.marks.adjointed 0 ps)
+reversed_lines w ps = tale_of (tales_of w ps)

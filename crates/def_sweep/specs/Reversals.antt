@@ -1,5 +1,5 @@
 -- The reversals that a run tells of, and what they are to be for the marked loops of a program. (docs/RUNNING.md, "Events")
-use Rattle.std.specs.Prelude.{◌≡◌, ◌≤◌, ◌⊎◌, ℕ, zero, suc, ◌+◌, ◌*◌, ◌==◌, ◌&&◌, List, [], ◌∷◌, reverse, Bool, true, false, Option, Some, None, if◌then◌else◌}
+use Rattle.std.specs.Prelude.{◌≡◌, ◌≤◌, ◌⊎◌, ℕ, zero, suc, ◌+◌, ◌*◌, ◌==◌, ◌&&◌, List, [], ◌∷◌, All, reverse, Bool, true, false, Option, Some, None, if◌then◌else◌}
 use Rattle.adj_tree.specs.Code.{name_eq}
 use Rattle.adj_revolve.specs.LeastCost.{least_cost}
 use Rattle.adj_revolve.specs.Machine.{Plays, total_cost}
@@ -102,18 +102,13 @@ words_taken [] shapes = 0
 words_taken (t ∷ ts) [] = 0
 words_taken (t ∷ ts) (shape ∷ shapes) = (if t then size_of shape else 0) + words_taken ts shapes
 
--- the call is of one of the two units, while the tape is at most so many snapshots higher than at the start
-abbrev pub IsWithin : StepUnits → ℕ → ℕ → Called → Type 0
-IsWithin step start snapshots c =
-    (start ≤ c.height)
-    × (((c.unit ≡ step.unit) × (c.height ≤ start + snapshots * words_taken step.taken c.shapes)) ⊎ ((c.unit ≡ step.adjoint) × (c.height ≤ start + snapshots * words_taken step.taken_back c.shapes)))
-
-abbrev pub AreWithin : StepUnits → ℕ → ℕ → List Called → Type 0
-AreWithin step start snapshots [] = Unit {0}
-AreWithin step start snapshots (c ∷ cs) = IsWithin step start snapshots c × AreWithin step start snapshots cs
+-- the call is of one of the two units, and a snapshot has so many words by its dummies
+abbrev pub IsOfStep : StepUnits → ℕ → Called → Type 0
+IsOfStep step words c = ((c.unit ≡ step.unit) × (words_taken step.taken c.shapes ≡ words)) ⊎ ((c.unit ≡ step.adjoint) × (words_taken step.taken_back c.shapes ≡ words))
 
 -- The reversal turns the run's steps with the run's snapshots, by as few calls of the step unit as any list of actions that does so on a machine with
--- as many slots for snapshots, and by one call of its adjoint for each step. It calls nothing else, and holds no more snapshots on the tape than that.
+-- as many slots for snapshots, and by one call of its adjoint for each step. It calls nothing else. By the dummies of each call a snapshot has the same
+-- number of words, and the reversal holds no more such snapshots on the tape than the run has.
 pub record Reverses (run : LoopRun) (r : Reversal) : Type 0 where
   pub steps : r.steps ≡ run.mark.turns
   pub snapshots : r.snapshots ≡ run.mark.snapshots
@@ -123,7 +118,9 @@ pub record Reverses (run : LoopRun) (r : Reversal) : Type 0 where
   pub attained : (actions : List Action) × (Plays r.steps r.snapshots actions × (total_cost actions ≡ times run.step.unit r.calls))
   pub advances : times run.step.unit r.calls ≡ least_cost r.steps r.snapshots
   pub adjoints : times run.step.adjoint r.calls ≡ r.steps
-  pub within : AreWithin run.step r.start r.snapshots r.calls
+  -- the words of a snapshot: one number for all calls, during which the tape is at most so many snapshots higher than at the start
+  pub words : ℕ
+  pub within : All (λ c. IsOfStep run.step words c × ((r.start ≤ c.height) × (c.height ≤ r.start + r.snapshots * words))) r.calls
 
 -- one for the other, in order
 abbrev pub AreReversed : List LoopRun → List Reversal → Type 0

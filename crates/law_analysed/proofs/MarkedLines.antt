@@ -14,7 +14,7 @@ use Rattle.def_sweep.specs.Marking.{ProgramFacts, callee_facts, first_from}
 use Rattle.def_sweep.specs.Schedules.{schedules_by}
 use Rattle.law_emitted.specs.Checked.{TellsAct, TellsCode, LinesTell}
 use Rattle.law_analysed.specs.MarkedLines.{marked_in, marked_lines, program_lines, has_line, AreLinesApart}
-use Rattle.def_sweep.specs.MarkedLines.{Tale, told_in, told_code, told_units, tale_of, reversed_lines}
+use Rattle.def_sweep.specs.MarkedLines.{Tale, told_in, told_code, told_units, tale_of, tales_of, reversed_lines}
 
 -- the lines say what is told of each
 abbrev Agree : ReversedLines → List Tale → Type 0
@@ -121,9 +121,22 @@ module _ (r : Schedules) (g : List ℕ → CalleeFacts) (f : ℕ → Bool) where
 
 -- ---- all together
 
+tales_apart : (w : ProgramFacts) (ps : List Procedure) → AreLinesApart (program_lines ps) → AreLinesApart (lines_of (tales_of w ps))
+tales_apart w ps apart = let g = callee_facts w ps in subst AreLinesApart (sym (lines_units (schedules_by true g) g w.marks.adjointed 0 ps)) apart
+
 pub lines_tell : (w : ProgramFacts) (ps : List Procedure) → AreLinesApart (program_lines ps) → LinesTell (reversed_lines w ps) true w ps
 lines_tell w ps apart name u found =
     let g = callee_facts w ps in
-    let r = schedules_by true g in
-    let tales = told_units r g w.marks.adjointed 0 ps in
-    tells_unit r g w.marks.adjointed (reversed_lines w ps) 0 ps name u found (agree_self tales (subst AreLinesApart (sym (lines_units r g w.marks.adjointed 0 ps)) apart))
+    tells_unit (schedules_by true g) g w.marks.adjointed (reversed_lines w ps) 0 ps name u found (agree_self (tales_of w ps) (tales_apart w ps apart))
+
+-- no two that tell stand at one line
+pub stand_apart : (w : ProgramFacts) (ps : List Procedure) → AreLinesApart (program_lines ps) → (a b c : List Tale) (s t : Tale) → tales_of w ps ≡ a ++ (s ∷ (b ++ (t ∷ c))) → s.0 ≡ t.0 → ⊥
+stand_apart w ps apart a b c s t split same = within a (subst (λ ts. AreLinesApart (lines_of ts)) split (tales_apart w ps apart))
+  where
+    behind_first : (b : List Tale) → has_line s.0 (lines_of (b ++ (t ∷ c))) ≡ false → ⊥
+    behind_first [] h = let e : true ≡ false = sym (nat_refl t.0) ∙ ap (λ n. n == t.0) (sym same) ∙ (or_false (s.0 == t.0) (has_line s.0 (lines_of c)) h).0 in absurd cc
+    behind_first (x ∷ b) h = behind_first b (or_false (s.0 == x.0) (has_line s.0 (lines_of (b ++ (t ∷ c)))) h).1
+
+    within : (a : List Tale) → AreLinesApart (lines_of (a ++ (s ∷ (b ++ (t ∷ c))))) → ⊥
+    within [] h = behind_first b h.0
+    within (x ∷ a) h = within a h.1

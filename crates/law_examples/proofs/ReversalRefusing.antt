@@ -1,8 +1,9 @@
 -- What is no adjoint that reverses the loops at some lines: by one input and adjoints of the dependents at which it fails.
-use Rattle.std.proofs.Common.{arith, ◌≡◌, ℕ, List, [], ◌∷◌, map, Bool, true, false, refl, sym, ap, ◌∙◌, subst}
-use Rattle.std.specs.Prelude.{ℤ, ◌==◌, ◌&&◌, length, reverse, Option, Some, None}
-use Rattle.adj_tree.specs.Code.{stop, Procedure}
-use Rattle.adj_tree.proofs.Names.{nat_refl}
+use Rattle.std.proofs.Common.{arith, ◌≡◌, inl, inr, ℕ, ◌+◌, ◌*◌, List, [], ◌∷◌, map, Bool, true, false, refl, sym, ap, ◌∙◌, subst}
+use Rattle.std.specs.Prelude.{ℤ, ◌==◌, ◌&&◌, ◌||◌, All, length, reverse, Option, Some, None}
+use Rattle.std.proofs.lemmas.List.Elements.{All-head, All-tail}
+use Rattle.adj_tree.specs.Code.{name_eq, stop, Procedure}
+use Rattle.adj_tree.proofs.Names.{nat_refl, name_refl}
 use Rattle.adj_revolve.specs.LeastCost.{least_cost}
 use Rattle.def_meaning.specs.Store.{scalar}
 use Rattle.def_meaning.specs.Numbers.{words}
@@ -16,7 +17,8 @@ use Rattle.def_sweep.specs.Tangents.{Ends, AreAlike}
 use Rattle.def_sweep.specs.Marking.{ProgramMarks}
 use Rattle.def_sweep.specs.Names.{adjoint_name}
 use Rattle.def_sweep.specs.Adjoint.{TransposesBy, IsAdjointWith}
-use Rattle.def_sweep.specs.Reversals.{LoopRun, Reversal, ReversedLines, Reverses, AreReversed, times, runs_in, reversals_in}
+use Rattle.def_sweep.specs.Reversals.{Called, StepUnits, LoopRun, Reversal, ReversedLines, words_taken, IsOfStep, Reverses, AreReversed, times, runs_in, reversals_in}
+use Rattle.law_sweep.proofs.Told.{IsBetween}
 
 -- ---- runs that are computed
 
@@ -62,9 +64,23 @@ is_none (x ∷ xs) = false
 
 -- ---- reversals that are computed
 
--- whether a reversal turns the steps of a run with its snapshots, by as few calls of the step unit as any schedule and one of its adjoint for each step
+-- whether a call is of one of the two units, by dummies that hold so many words of a snapshot
+abbrev says : StepUnits → ℕ → Called → Bool
+says step n c = (name_eq c.unit step.unit && (words_taken step.taken c.shapes == n)) || (name_eq c.unit step.adjoint && (words_taken step.taken_back c.shapes == n))
+
+abbrev all_say : StepUnits → ℕ → List Called → Bool
+all_say step n [] = true
+all_say step n (c ∷ cs) = says step n c && all_say step n cs
+
+-- whether all calls say one number, which is that of the first
+abbrev are_even : StepUnits → List Called → Bool
+are_even step [] = true
+are_even step (c ∷ cs) = all_say step (words_taken step.taken c.shapes) (c ∷ cs) || all_say step (words_taken step.taken_back c.shapes) (c ∷ cs)
+
+-- whether a reversal turns the steps of a run with its snapshots, by as few calls of the step unit as any schedule and one of its adjoint for each step,
+-- which all say one number of words
 abbrev is_right : LoopRun → Reversal → Bool
-is_right run r = (r.steps == run.mark.turns) && ((r.snapshots == run.mark.snapshots) && ((times run.step.unit r.calls == least_cost r.steps r.snapshots) && (times run.step.adjoint r.calls == r.steps)))
+is_right run r = (r.steps == run.mark.turns) && ((r.snapshots == run.mark.snapshots) && ((times run.step.unit r.calls == least_cost r.steps r.snapshots) && ((times run.step.adjoint r.calls == r.steps) && are_even run.step r.calls)))
 
 abbrev pub are_right : List LoopRun → List Reversal → Bool
 are_right [] [] = true
@@ -75,8 +91,36 @@ are_right (l ∷ ls) (r ∷ rs) = is_right l r && are_right ls rs
 same : (m n : ℕ) → m ≡ n → (m == n) ≡ true
 same m n e = subst (λ k. (m == k) ≡ true) e (nat_refl m)
 
+either : (a b : Bool) → b ≡ true → (a || b) ≡ true
+either true b h = refl
+either false b h = h
+
+named : (x y : List ℕ) → x ≡ y → name_eq x y ≡ true
+named x y e = subst (λ z. name_eq x z ≡ true) e (name_refl x)
+
+said : (step : StepUnits) (n : ℕ) (c : Called) → IsOfStep step n c → says step n c ≡ true
+said step n c (inl k) = λ i. (named c.unit step.unit k.0 i && same (words_taken step.taken c.shapes) n k.1 i) || (name_eq c.unit step.adjoint && (words_taken step.taken_back c.shapes == n))
+said step n c (inr k) =
+    either (name_eq c.unit step.unit && (words_taken step.taken c.shapes == n)) (name_eq c.unit step.adjoint && (words_taken step.taken_back c.shapes == n))
+    (λ i. named c.unit step.adjoint k.0 i && same (words_taken step.taken_back c.shapes) n k.1 i)
+
+all_said : (step : StepUnits) (n low high : ℕ) (cs : List Called) → All (IsBetween (IsOfStep step n) low high) cs → all_say step n cs ≡ true
+all_said step n low high [] h = refl
+all_said step n low high (c ∷ cs) h =
+    λ i. said step n c (All-head (IsBetween (IsOfStep step n) low high) c cs h).0 i && all_said step n low high cs (All-tail (IsBetween (IsOfStep step n) low high) c cs h) i
+
+even : (step : StepUnits) (n low high : ℕ) (cs : List Called) → All (IsBetween (IsOfStep step n) low high) cs → are_even step cs ≡ true
+even step n low high [] h = refl
+even step n low high (c ∷ cs) h = go (All-head (IsBetween (IsOfStep step n) low high) c cs h).0
+  where
+    go : IsOfStep step n c → are_even step (c ∷ cs) ≡ true
+    go (inl k) = λ i. subst (λ w. all_say step w (c ∷ cs) ≡ true) (sym k.1) (all_said step n low high (c ∷ cs) h) i || all_say step (words_taken step.taken_back c.shapes) (c ∷ cs)
+    go (inr k) = either (all_say step (words_taken step.taken c.shapes) (c ∷ cs)) (all_say step (words_taken step.taken_back c.shapes) (c ∷ cs)) (subst (λ w. all_say step w (c ∷ cs) ≡ true) (sym k.1) (all_said step n low high (c ∷ cs) h))
+
 right : (l : LoopRun) (r : Reversal) → Reverses l r → is_right l r ≡ true
-right l r h = λ i. same r.steps l.mark.turns h.steps i && (same r.snapshots l.mark.snapshots h.snapshots i && (same (times l.step.unit r.calls) (least_cost r.steps r.snapshots) h.advances i && same (times l.step.adjoint r.calls) r.steps h.adjoints i))
+right l r h =
+    λ i. same r.steps l.mark.turns h.steps i && (same r.snapshots l.mark.snapshots h.snapshots i && (same (times l.step.unit r.calls) (least_cost r.steps r.snapshots) h.advances i
+    && (same (times l.step.adjoint r.calls) r.steps h.adjoints i && even l.step h.words r.start (r.start + r.snapshots * h.words) r.calls h.within i)))
 
 all_right : (ls : List LoopRun) (rs : List Reversal) → AreReversed ls rs → are_right ls rs ≡ true
 all_right [] [] h = refl

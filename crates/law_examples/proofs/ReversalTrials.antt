@@ -9,8 +9,8 @@ use Rattle.adj_revolve.specs.Split.{first_repetition, repetitions, split_of}
 use Rattle.def_meaning.specs.Run.{most_tests}
 use Rattle.def_sweep.specs.Marking.{full_marks}
 use Rattle.law_examples.specs.Faulty.{unchanged, unrestored}
-use Rattle.law_examples.specs.ReversalFaulty.{faulty_program, Serve, unpopped, unkept, farther, unended, enclosed, unheld, late, unbounded}
-use Rattle.law_examples.specs.ReversalSources.{repeated, repeating, numbered, numbering, twice_numbered, numbering_twice, counting_down, divided, fewer_left, leaving_fewer, sparing, one_loop, loops_of_both}
+use Rattle.law_examples.specs.ReversalFaulty.{faulty_program, Serve, unpopped, unkept, farther, unended, enclosed, unheld, late, unbounded, enlarged}
+use Rattle.law_examples.specs.ReversalSources.{repeated, repeating, numbered, numbering, twice_numbered, numbering_twice, counting_down, divided, fewer_left, leaving_fewer, with_arrays, clearing_arrays, sparing, one_loop, loops_of_both}
 use Rattle.law_examples.proofs.ReversalRefusing.{adjoint_in, stuck, left, wrong}
 
 -- the snapshot of the first step is left on the tape
@@ -82,3 +82,10 @@ unfolding int_wrap most_tests body split_of repetitions first_repetition choose 
 unbounded_fails =
     stuck (one_loop full_marks (numbering 1)) full_marks (numbering 1) 1 (true ∷ false ∷ false ∷ []) (true ∷ false ∷ false ∷ []) (faulty_program true (unbounded (codes "N")) full_marks (numbering 1) 1 (true ∷ false ∷ false ∷ []) (true ∷ false ∷ false ∷ [])) (numbered 1)
     (adjoint_in (numbering 1) (numbered 1) (faulty_program true (unbounded (codes "N")) full_marks (numbering 1) 1 (true ∷ false ∷ false ∷ []) (true ∷ false ∷ false ∷ []))) refl refl (pos 2 ∷ pos 7 ∷ pos 0 ∷ []) (pos 1 ∷ pos 0 ∷ pos 0 ∷ []) 200 refl refl refl (λ h. h) refl
+
+-- the step unit gets one word of A, and its adjoint two of C
+pub enlarged_fails : Serve true enlarged (one_loop full_marks clearing_arrays) full_marks clearing_arrays 1 (true ∷ false ∷ false ∷ false ∷ []) (true ∷ false ∷ false ∷ false ∷ []) → ⊥
+unfolding int_wrap most_tests body split_of repetitions first_repetition choose least_cost greatest_up_to
+enlarged_fails =
+    wrong (one_loop full_marks clearing_arrays) full_marks clearing_arrays 1 (true ∷ false ∷ false ∷ false ∷ []) (true ∷ false ∷ false ∷ false ∷ []) (faulty_program true enlarged full_marks clearing_arrays 1 (true ∷ false ∷ false ∷ false ∷ []) (true ∷ false ∷ false ∷ false ∷ [])) with_arrays
+    (adjoint_in clearing_arrays with_arrays (faulty_program true enlarged full_marks clearing_arrays 1 (true ∷ false ∷ false ∷ false ∷ []) (true ∷ false ∷ false ∷ false ∷ []))) refl refl (pos 2 ∷ pos 7 ∷ pos 1 ∷ pos 2 ∷ []) (pos 1 ∷ pos 0 ∷ pos 0 ∷ pos 0 ∷ []) 400 refl refl refl (λ h. h) refl

@@ -1,8 +1,9 @@
 -- Emitted programs whose reversals have a fault: each is what is emitted by some marks, but for one thing. (docs/THEOREMS.md, "Reversals of marked loops")
-use Rattle.std.specs.Prelude.{ℕ, pos, List, map, Bool, true, codes, if◌then◌else◌}
-use Rattle.adj_tree.specs.Code.{Var, plain, var_eq, minus, lit, var, neg, bin, none, assign, loop, runtime, push_word, pop_word, begin_reversal, count_actions, give_action, end_reversal, stop, step, Procedure}
+use Rattle.std.specs.Prelude.{ℕ, pos, List, [], ◌∷◌, map, Bool, true, codes, if◌then◌else◌}
+use Rattle.adj_tree.specs.Code.{Var, plain, name_eq, var_eq, minus, lit, var, neg, bin, none, assign, loop, call, runtime, push_word, pop_word, begin_reversal, count_actions, give_action, end_reversal, stop, step, Procedure}
 use Rattle.def_sweep.specs.Adjoint.{IsAdjointWith}
 use Rattle.def_sweep.specs.Marking.{ProgramMarks}
+use Rattle.def_sweep.specs.Plan.{actuals_named}
 use Rattle.def_sweep.specs.Program.{emitted_program_with}
 use Rattle.def_sweep.specs.ReversalCode.{as_slots}
 use Rattle.def_sweep.specs.Reversals.{ReversedLines}
@@ -65,3 +66,9 @@ unbounded x line (runtime (begin_reversal l s)) rest = step line (runtime (begin
 unbounded x line (runtime (count_actions l s n)) rest = step line (runtime (count_actions l (var (plain x)) n)) rest
 unbounded x line (runtime (give_action l s k a f t)) rest = step line (runtime (give_action l (var (plain x)) k a f t)) rest
 unbounded x line a rest = step line a rest
+
+-- the adjoint of the step unit gets the larger array C with its extent M in place of A with N
+abbrev pub enlarged : Change
+enlarged line (call name args) rest =
+    if name_eq name (codes "S_B") then step line (call name (actuals_named (codes "X" ∷ codes "XB" ∷ codes "C" ∷ codes "CB" ∷ codes "M" ∷ codes "MB" ∷ []))) rest else step line (call name args) rest
+enlarged line a rest = step line a rest

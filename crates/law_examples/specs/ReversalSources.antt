@@ -1,6 +1,6 @@
 -- Worked programs with marked loops, in kernel form: the unit P is the head. (docs/EMITTED.md, "Sweeps")
-use Rattle.std.specs.Prelude.{ℕ, pos, ◌+◌, ◌==◌, ◌||◌, not, List, [], ◌∷◌, Some, None, codes, if◌then◌else◌}
-use Rattle.adj_tree.specs.Code.{plain, var_eq, minus, times, quot, lit, var, bin, Mark, with_count, count_from, loop, call, Code, stop, step, Procedure}
+use Rattle.std.specs.Prelude.{ℕ, pos, ◌+◌, ◌==◌, ◌||◌, not, false, List, [], ◌∷◌, Some, None, codes, if◌then◌else◌}
+use Rattle.adj_tree.specs.Code.{plain, var_eq, minus, times, quot, lit, var, bin, none, more, Mark, with_count, count_from, assign, loop, call, Code, stop, step, Extent, fixed, given, Declaration, Procedure}
 use Rattle.def_meaning.specs.Written.{find_unit}
 use Rattle.law_sweep.specs.Examples.{unit_over, set}
 use Rattle.def_sweep.specs.Marking.{ProgramMarks, full_marks, callee_in, read_by, dummy_set}
@@ -11,15 +11,15 @@ use Rattle.law_examples.specs.Sources.{squaring}
 
 -- at a line a DO from 1 to n with a directive, whose body is the call of its step unit, and statements behind it
 abbrev directed_loop : ℕ → List ℕ → ℕ → Mark → List ℕ → List (List ℕ) → Code → Code
-directed_loop line x n mark name given rest = step line (loop (plain x) (lit (pos 1)) (lit (pos n)) (lit (pos 1)) (step (line + 1) (call name (actuals_named given)) stop) mark) rest
+directed_loop line x n mark name actuals rest = step line (loop (plain x) (lit (pos 1)) (lit (pos n)) (lit (pos 1)) (step (line + 1) (call name (actuals_named actuals)) stop) mark) rest
 
 -- with m snapshots
 abbrev marked_loop : ℕ → List ℕ → ℕ → ℕ → List ℕ → List (List ℕ) → Code
-marked_loop line x n m name given = directed_loop line x n (with_count m) name given stop
+marked_loop line x n m name actuals = directed_loop line x n (with_count m) name actuals stop
 
 -- with as many snapshots as a variable says
 abbrev counted_loop : ℕ → List ℕ → ℕ → List ℕ → List ℕ → List (List ℕ) → Code → Code
-counted_loop line x n y name given rest = directed_loop line x n (count_from (plain y)) name given rest
+counted_loop line x n y name actuals rest = directed_loop line x n (count_from (plain y)) name actuals rest
 
 -- ---- sources
 
@@ -76,6 +76,36 @@ fewer_left = unit_over (codes "X" ∷ codes "E" ∷ codes "I" ∷ []) (counted_l
 
 abbrev pub leaving_fewer : List Procedure
 leaving_fewer = dividing ∷ fewer_left ∷ []
+
+-- a variable with these extents, none for a scalar
+abbrev declare : List ℕ → List Extent → Declaration
+declare x extents = record { line = 2; name = x; extents = extents }
+
+-- P(X,I,N,M), A(1), C(2), DO I=1,2 with 1 snapshot, CALL S(X,A,N); S(X,A,N), A(N), X=X*X, A(1)=0
+abbrev clearing : Procedure
+clearing = record {
+  line = 1;
+  name = codes "S";
+  dummies = codes "X" ∷ codes "A" ∷ codes "N" ∷ [];
+  is_none = false;
+  declarations = declare (codes "X") [] ∷ declare (codes "A") (given (codes "N") ∷ []) ∷ declare (codes "N") [] ∷ [];
+  body =
+      step 3 (set (plain (codes "X")) (bin times (var (plain (codes "X"))) (var (plain (codes "X")))))
+      (step 4 (assign (plain (codes "A")) (more (lit (pos 1)) none) (lit (pos 0))) stop);
+}
+
+abbrev pub with_arrays : Procedure
+with_arrays = record {
+  line = 1;
+  name = codes "P";
+  dummies = codes "X" ∷ codes "I" ∷ codes "N" ∷ codes "M" ∷ [];
+  is_none = false;
+  declarations = declare (codes "X") [] ∷ declare (codes "I") [] ∷ declare (codes "N") [] ∷ declare (codes "M") [] ∷ declare (codes "A") (fixed (pos 1) ∷ []) ∷ declare (codes "C") (fixed (pos 2) ∷ []) ∷ [];
+  body = marked_loop 3 (codes "I") 2 1 (codes "S") (codes "X" ∷ codes "A" ∷ codes "N" ∷ []);
+}
+
+abbrev pub clearing_arrays : List Procedure
+clearing_arrays = clearing ∷ with_arrays ∷ []
 
 -- ---- marks
 

@@ -20,8 +20,8 @@ ghost use Rattle.law_examples.specs.Costs.{taken_by, Keeps, bound_priced, idling
 ghost use Rattle.def_sweep.specs.Marking.{full_marks};
 ghost use Rattle.def_sweep.specs.Program.{emitted_program_with};
 ghost use Rattle.law_examples.specs.Faulty.{unchanged, unrestored};
-ghost use Rattle.law_examples.specs.ReversalSources.{repeated, repeating, numbering, numbering_twice, nested, divided, leaving_fewer, sparing, one_loop, loops_of_both};
-ghost use Rattle.law_examples.specs.ReversalFaulty.{faulty_program, Serve, unpopped, unkept, farther, unended, enclosed, unheld, late, unbounded};
+ghost use Rattle.law_examples.specs.ReversalSources.{repeated, repeating, numbering, numbering_twice, nested, divided, leaving_fewer, clearing_arrays, sparing, one_loop, loops_of_both};
+ghost use Rattle.law_examples.specs.ReversalFaulty.{faulty_program, Serve, unpopped, unkept, farther, unended, enclosed, unheld, late, unbounded, enlarged};
 ghost use Rattle.law_examples.specs.ReversalTold.{told_after};
 ghost use Rattle.law_examples.specs.ReversalWritten.{repeating_adjoint, numbering_adjoint};
 
@@ -58,7 +58,8 @@ pub fn worked_numbers()
 
 /// Emitted programs whose reversals have a fault are no adjoints: a snapshot stays on the tape, or isn't pushed again; an advance makes a step too
 /// many; a reversal doesn't end; a marked loop is a loop as others, alone or within a reversal; a snapshot has not what the step unit reads; the
-/// number of snapshots of a variable isn't held on the tape, is taken behind the loop, or isn't brought between 1 and 64.
+/// number of snapshots of a variable isn't held on the tape, is taken behind the loop, or isn't brought between 1 and 64; the adjoint of the step unit
+/// is called by a larger array than the step unit, though what it leaves is right and each unit is called as often as it should.
 pub fn wrong_reversals()
     ensures unpopped { Serve true unpopped (one_loop full_marks (repeating 1 1)) full_marks (repeating 1 1) 1 (true ∷ false ∷ []) (true ∷ false ∷ []) → ⊥ }
     ensures unkept { Serve true unkept (one_loop full_marks (repeating 3 1)) full_marks (repeating 3 1) 1 (true ∷ false ∷ []) (true ∷ false ∷ []) → ⊥ }
@@ -70,6 +71,8 @@ pub fn wrong_reversals()
     ensures unheld { Serve true unheld (loops_of_both full_marks numbering_twice) full_marks numbering_twice 1 (true ∷ false ∷ false ∷ false ∷ []) (true ∷ false ∷ false ∷ false ∷ []) → ⊥ }
     ensures late { Serve true (late (codes "E")) (one_loop full_marks leaving_fewer) full_marks leaving_fewer 1 (true ∷ false ∷ false ∷ []) (true ∷ false ∷ false ∷ []) → ⊥ }
     ensures unbounded { Serve true (unbounded (codes "N")) (one_loop full_marks (numbering 1)) full_marks (numbering 1) 1 (true ∷ false ∷ false ∷ []) (true ∷ false ∷ false ∷ []) → ⊥ }
+    ensures enlarged { Serve true enlarged (one_loop full_marks clearing_arrays) full_marks clearing_arrays 1 (true ∷ false ∷ false ∷ false ∷ []) (true ∷ false ∷ false ∷ false ∷ []) → ⊥ }
+    ensures enlarged_leaves { told_after (codes "S" ∷ codes "S_B" ∷ []) (faulty_program true enlarged full_marks clearing_arrays 1 (true ∷ false ∷ false ∷ false ∷ []) (true ∷ false ∷ false ∷ false ∷ [])) (codes "P_B") (pos 2 ∷ pos 1 ∷ pos 7 ∷ pos 0 ∷ pos 1 ∷ pos 0 ∷ pos 2 ∷ pos 0 ∷ []) 400 ≡ ((pos 2 ∷ []) ∷ (pos 32 ∷ []) ∷ (pos 7 ∷ []) ∷ (pos 0 ∷ []) ∷ (pos 1 ∷ []) ∷ (pos 0 ∷ []) ∷ (pos 2 ∷ []) ∷ (pos 0 ∷ []) ∷ [], (2 ∷ 1 ∷ 1 ∷ 2 ∷ []) ∷ []) }
 {}
 
 /// What five steps with two snapshots take: 16 statements in the program, where no chain has more than one call and no statement weighs more than 4.

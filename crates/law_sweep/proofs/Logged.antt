@@ -1,6 +1,7 @@
 -- The log of a run counts what its reversals are: the advances are the calls directly in them less their steps.
-use Rattle.std.proofs.Common.{◌≡◌, ◌≤◌, ◌<◌, ◌⊎◌, inl, inr, ℕ, suc, ◌+◌, ◌-◌, ◌*◌, true, false, List, [], ◌∷◌, ◌++◌, length, refl, sym, ap, ◌∙◌, arith, if◌then◌else◌}
-use Rattle.std.specs.Prelude.{◌==◌, max}
+use Rattle.std.proofs.Common.{◌≡◌, ◌<◌, ◌⊎◌, inl, inr, ℕ, suc, ◌+◌, ◌-◌, ◌*◌, true, false, List, [], ◌∷◌, ◌++◌, length, refl, sym, ap, ◌∙◌, arith, if◌then◌else◌}
+use Rattle.std.specs.Prelude.{◌==◌, max, All}
+use Rattle.std.proofs.lemmas.List.Elements.{All-head, All-tail}
 use Rattle.adj_tree.specs.Code.{name_eq}
 use Rattle.adj_tree.proofs.Names.{nat_refl, name_refl}
 use Rattle.adj_revolve.specs.LeastCost.{least_cost}
@@ -8,8 +9,8 @@ use Rattle.def_meaning.specs.Store.{Shape}
 use Rattle.def_meaning.specs.Event.{Event, Enter, Begin, End}
 use Rattle.def_meaning.specs.Log.{Reversal as Open, Log, log_from}
 use Rattle.law_sweep.specs.Tells.{in_order}
-use Rattle.def_sweep.specs.Reversals.{Called, Reversal, StepUnits, LoopRun, words_taken, Reverses, AreWithin, times}
-use Rattle.law_sweep.proofs.Told.{in_order-append}
+use Rattle.def_sweep.specs.Reversals.{Called, Reversal, StepUnits, LoopRun, IsOfStep, Reverses, times}
+use Rattle.law_sweep.proofs.Told.{in_order-append, IsBetween}
 
 -- the innermost open reversal, if any, is of a unit that was entered at a lower level
 abbrev pub BelowTop : ℕ → List Open → Type 0
@@ -99,21 +100,22 @@ logged_reversal level steps snapshots height inner calls n f = record {
 
 -- ---- so a reversal that is right adds the least cost
 
-calls_counted : (step : StepUnits) → name_eq step.unit step.adjoint ≡ false → name_eq step.adjoint step.unit ≡ false → (start snapshots : ℕ) (cs : List Called) → AreWithin step start snapshots cs → length cs ≡ times step.unit cs + times step.adjoint cs
-calls_counted step n o start snapshots [] h = omega arith
-calls_counted step n o start snapshots (c ∷ cs) h = of_step h.0.1 (calls_counted step n o start snapshots cs h.1)
+calls_counted : (step : StepUnits) → name_eq step.unit step.adjoint ≡ false → name_eq step.adjoint step.unit ≡ false → (words low high : ℕ) (cs : List Called) → All (IsBetween (IsOfStep step words) low high) cs → length cs ≡ times step.unit cs + times step.adjoint cs
+calls_counted step n o words low high [] h = omega arith
+calls_counted step n o words low high (c ∷ cs) h =
+    of_step (All-head (IsBetween (IsOfStep step words) low high) c cs h).0 (calls_counted step n o words low high cs (All-tail (IsBetween (IsOfStep step words) low high) c cs h))
   where
     go : (c.unit ≡ step.unit) ⊎ (c.unit ≡ step.adjoint) → length cs ≡ times step.unit cs + times step.adjoint cs → suc (length cs) ≡ ((if name_eq step.unit c.unit then 1 else 0) + times step.unit cs) + ((if name_eq step.adjoint c.unit then 1 else 0) + times step.adjoint cs)
     go (inl e) ih = rw (e, name_refl step.unit, o) (omega (arith, ih))
     go (inr e) ih = rw (e, name_refl step.adjoint, n) (omega (arith, ih))
 
-    of_step : ((c.unit ≡ step.unit) × (c.height ≤ start + snapshots * words_taken step.taken c.shapes)) ⊎ ((c.unit ≡ step.adjoint) × (c.height ≤ start + snapshots * words_taken step.taken_back c.shapes)) → length cs ≡ times step.unit cs + times step.adjoint cs → suc (length cs) ≡ ((if name_eq step.unit c.unit then 1 else 0) + times step.unit cs) + ((if name_eq step.adjoint c.unit then 1 else 0) + times step.adjoint cs)
+    of_step : IsOfStep step words c → length cs ≡ times step.unit cs + times step.adjoint cs → suc (length cs) ≡ ((if name_eq step.unit c.unit then 1 else 0) + times step.unit cs) + ((if name_eq step.adjoint c.unit then 1 else 0) + times step.adjoint cs)
     of_step (inl e) ih = go (inl e.0) ih
     of_step (inr e) ih = go (inr e.0) ih
 
 pub reversal_adds : (run : LoopRun) (r : Reversal) → name_eq run.step.unit run.step.adjoint ≡ false → name_eq run.step.adjoint run.step.unit ≡ false → Reverses run r → length r.calls - r.steps ≡ least_cost run.mark.turns run.mark.snapshots
 reversal_adds run r n o h =
-    let all = calls_counted run.step n o r.start r.snapshots r.calls h.within in
+    let all = calls_counted run.step n o h.words r.start (r.start + r.snapshots * h.words) r.calls h.within in
     let advances = h.advances in
     let adjoints = h.adjoints in
     let e : length r.calls - r.steps ≡ least_cost r.steps r.snapshots = omega (arith, all, advances, adjoints) in

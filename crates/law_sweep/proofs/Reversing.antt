@@ -1,5 +1,5 @@
 -- A reversal as a whole: what it does to the store and the tape, and what it tells.
-use Rattle.std.proofs.Common.{◌≡◌, ◌<◌, ◌≤◌, ◌^◌, ℕ, suc, false, List, ◌∷◌, length, refl, sym, ap, ◌∙◌, subst, arith}
+use Rattle.std.proofs.Common.{◌≡◌, ◌<◌, ◌≤◌, ◌^◌, ◌+◌, ◌*◌, ℕ, suc, false, List, ◌∷◌, length, refl, sym, ap, ◌∙◌, subst, arith}
 use Rattle.std.specs.Prelude.{ℤ, pos, Ok}
 use Rattle.adj_tree.specs.Code.{Var, plain, helper, first, stride, count, entry, entries, name_eq, var, Mark, unmarked, loop, runtime, begin_reversal, count_actions, end_reversal, Code, stop}
 use Rattle.adj_tree.proofs.Names.{nat_refl}
@@ -23,10 +23,10 @@ use Rattle.law_meaning.proofs.Leadings.{leads_stop, leads_act, leads_step}
 use Rattle.law_sweep.specs.Pairs.{Key, Words, shadows, on_words}
 use Rattle.law_sweep.specs.Scenes.{Course, scene}
 use Rattle.def_sweep.specs.Rows.{literal}
-use Rattle.def_sweep.specs.Reversals.{Reversal, LoopRun, Reverses, AreReversed, StepUnits, Called}
+use Rattle.def_sweep.specs.Reversals.{Reversal, LoopRun, IsOfStep, Reverses, AreReversed, StepUnits, Called}
 use Rattle.law_sweep.specs.Tells.{Tells}
 use Rattle.def_sweep.specs.ReversalCode.{slots_of, reversal}
-use Rattle.law_sweep.proofs.Told.{reversal_of, tells_reversal, IsOfStep, between_within}
+use Rattle.law_sweep.proofs.Told.{reversal_of, tells_reversal, between_all}
 use Rattle.law_sweep.proofs.Slots.{slots_same}
 use Rattle.law_sweep.proofs.Goings.{loop_goes}
 use Rattle.law_sweep.specs.Steps.{changes, loops_of}
@@ -93,7 +93,7 @@ module _ (q : Calls ℤ) (sh : Var → Shape) (level : ℕ) (cells : List Key) (
             (leads_act q nw line (loop (helper entry d) (literal 1) (var (helper entries d)) (literal 1) (action q sh level cells d line x l m mark a0 c0 unit adj Kind words keep back plain_call adjoint Standing Loose Snap change loops) unmarked) (one line (runtime end_reversal)) (scene b1 f1 t) (scene looped.later p.after t) (scene b2 p.after t) looped.runs
             (leads_step q nw line (runtime end_reversal) stop (scene looped.later p.after t) (scene b2 p.after t) (scene b2 p.after t) (λ k. rw looped.tells.opened refl) (leads_stop q nw (scene b2 p.after t)))));
         tells = tells_reversal level l m (length t) base looped.later p.calls p.rs looped.tells;
-        reverses = record { steps = refl; snapshots = refl; ended = refl; fewest = λ actions plays. subst (λ n. n ≤ total_cost actions) (sym p.advances_are) (plays_least l m actions slot plays); attained = (schedule_of 0 l m, (schedule_plays l m slot, schedule_cost 0 l m slot ∙ sym p.advances_are)); advances = p.advances_are; adjoints = p.turns_are; within = between_within step words (length t) m p.calls p.within };
+        reverses = record { steps = refl; snapshots = refl; ended = refl; fewest = λ actions plays. subst (λ n. n ≤ total_cost actions) (sym p.advances_are) (plays_least l m actions slot plays); attained = (schedule_of 0 l m, (schedule_plays l m slot, schedule_cost 0 l m slot ∙ sym p.advances_are)); advances = p.advances_are; adjoints = p.turns_are; words = words; within = between_all Kind (length t) (length t + m * words) p.calls p.within };
         begins = refl;
         reversed = p.reversed;
         loose = p.ends;

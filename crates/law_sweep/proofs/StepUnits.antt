@@ -21,12 +21,11 @@ use Rattle.def_sweep.specs.Rows.{pushes, pops, adjoint_call}
 use Rattle.law_sweep.specs.Laws.{just}
 use Rattle.def_sweep.specs.Callees.{CalleeFacts}
 use Rattle.law_sweep.specs.Runs.{SameOff}
-use Rattle.def_sweep.specs.Reversals.{LoopRun, StepUnits}
+use Rattle.def_sweep.specs.Reversals.{LoopRun, StepUnits, IsOfStep}
 use Rattle.law_sweep.specs.Steps.{ActualsAgree, Steps, words_of}
 use Rattle.law_sweep.proofs.Passing.{beside_back}
 use Rattle.law_sweep.proofs.CallSweeps.{group_has, group_out}
 use Rattle.def_sweep.specs.StepUnits.{step_units}
-use Rattle.law_sweep.proofs.Told.{IsOfStep}
 use Rattle.law_sweep.proofs.Snapshots.{KnowsArrays, Restored, Pushed, group_pushed}
 use Rattle.law_sweep.proofs.Goings.{goes_one}
 use Rattle.law_sweep.proofs.Acting.{Stepping, SnapshotPopped}

@@ -1,12 +1,13 @@
 -- What runs tell of reversals goes together one after another, through calls, and around a reversal.
-use Rattle.std.proofs.Common.{◌≡◌, inl, inr, ◌≤◌, ◌<◌, ℕ, zero, suc, ◌+◌, true, false, List, [], ◌∷◌, ◌++◌, refl, sym, ap, ◌∙◌, subst, arith, append_assoc}
-use Rattle.std.specs.Prelude.{◌==◌, ◌*◌, ◌⊎◌, Option, Some, None, reverse}
+use Rattle.std.proofs.Common.{◌≡◌, ◌≤◌, ◌<◌, ℕ, zero, suc, ◌+◌, true, false, List, [], ◌∷◌, ◌++◌, refl, sym, ap, ◌∙◌, subst, arith, append_assoc}
+use Rattle.std.specs.Prelude.{◌==◌, All, Option, Some, None, reverse}
 use Rattle.std.proofs.lemmas.List.{append-nil, reverse-append}
+use Rattle.std.proofs.lemmas.List.Elements.{All-nil, All-cons}
 use Rattle.adj_tree.proofs.Names.{nat_refl}
 use Rattle.def_meaning.specs.Event.{Event, Enter, Begin, End, Marked}
 use Rattle.def_meaning.specs.Store.{Shape}
 use Rattle.law_sweep.specs.Scenes.{Course}
-use Rattle.def_sweep.specs.Reversals.{Called, Reversal, calls_after, ends_after, reversals_in, MarkedRun, StepUnits, LoopRun, with_run, runs_in, times, words_taken, AreWithin, AreReversed, ReversedLines}
+use Rattle.def_sweep.specs.Reversals.{Called, Reversal, calls_after, ends_after, reversals_in, MarkedRun, StepUnits, LoopRun, with_run, runs_in, times, AreReversed, ReversedLines}
 use Rattle.law_sweep.specs.Tells.{in_order, IsTold, IsToldBy, Tells, TellsCalls, Marks}
 
 -- ---- lists of events
@@ -170,10 +171,13 @@ pub times-append : (name : List ℕ) (a b : List Called) → times name (a ++ b)
 times-append name [] b = omega arith
 times-append name (c ∷ a) b = omega (arith, times-append name a b)
 
--- each call is of one kind, while the tape is as long as `low` at least and as `high` at most
+-- the call is of one kind, while the tape is as long as `low` at least and as `high` at most
+abbrev pub IsBetween : (Called → Type 0) → ℕ → ℕ → Called → Type 0
+IsBetween Kind low high c = Kind c × ((low ≤ c.height) × (c.height ≤ high))
+
 abbrev pub AreBetween : (Called → Type 0) → ℕ → ℕ → List Called → Type 0
 AreBetween Kind low high [] = Unit {0}
-AreBetween Kind low high (c ∷ cs) = (Kind c × ((low ≤ c.height) × (c.height ≤ high))) × AreBetween Kind low high cs
+AreBetween Kind low high (c ∷ cs) = IsBetween Kind low high c × AreBetween Kind low high cs
 
 pub between_append : (Kind : Called → Type 0) (low high : ℕ) (a b : List Called) → AreBetween Kind low high a → AreBetween Kind low high b → AreBetween Kind low high (a ++ b)
 between_append Kind low high [] b f g = g
@@ -183,17 +187,10 @@ pub between_wider : (Kind : Called → Type 0) (low high low' high' : ℕ) (a : 
 between_wider Kind low high low' high' [] l h f = tt
 between_wider Kind low high low' high' (c ∷ a) l h f = ((f.0.0, (omega (arith, f.0.1.0), omega (arith, f.0.1.1))), between_wider Kind low high low' high' a l h f.1)
 
--- a call of the step unit or of its adjoint, where a snapshot has so many words
-abbrev pub IsOfStep : StepUnits → ℕ → Called → Type 0
-IsOfStep step words c = ((c.unit ≡ step.unit) × (words_taken step.taken c.shapes ≡ words)) ⊎ ((c.unit ≡ step.adjoint) × (words_taken step.taken_back c.shapes ≡ words))
-
-pub between_within : (step : StepUnits) (words start snapshots : ℕ) (cs : List Called) → AreBetween (IsOfStep step words) start (start + snapshots * words) cs → AreWithin step start snapshots cs
-between_within step words start snapshots [] h = tt
-between_within step words start snapshots (c ∷ cs) h = ((h.0.1.0, one h.0.0), between_within step words start snapshots cs h.1)
-  where
-    one : IsOfStep step words c → ((c.unit ≡ step.unit) × (c.height ≤ start + snapshots * words_taken step.taken c.shapes)) ⊎ ((c.unit ≡ step.adjoint) × (c.height ≤ start + snapshots * words_taken step.taken_back c.shapes))
-    one (inl k) = inl (k.0, subst (λ z. c.height ≤ start + snapshots * z) (sym k.1) h.0.1.1)
-    one (inr k) = inr (k.0, subst (λ z. c.height ≤ start + snapshots * z) (sym k.1) h.0.1.1)
+-- so it is of each
+pub between_all : (Kind : Called → Type 0) (low high : ℕ) (a : List Called) → AreBetween Kind low high a → All (IsBetween Kind low high) a
+between_all Kind low high [] h = All-nil (IsBetween Kind low high)
+between_all Kind low high (c ∷ a) h = All-cons (IsBetween Kind low high) c a h.0 (between_all Kind low high a h.1)
 
 pub reversed_append : (la lb : List LoopRun) (ra rb : List Reversal) → AreReversed la ra → AreReversed lb rb → AreReversed (la ++ lb) (ra ++ rb)
 reversed_append [] lb [] rb f g = g

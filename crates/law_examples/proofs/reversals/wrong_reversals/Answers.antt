@@ -1,4 +1,10 @@
-use Rattle.law_examples.proofs.ReversalTrials.{unpopped_fails, unkept_fails, farther_fails, unended_fails, plain_fails, enclosed_fails, unread_fails, unheld_fails, late_fails, unbounded_fails}
+use Rattle.std.proofs.Common.{refl}
+use Rattle.std.specs.Int.{int_wrap}
+use Rattle.adj_revolve.specs.Binomial.{choose}
+use Rattle.adj_revolve.specs.Schedule.{body}
+use Rattle.adj_revolve.specs.Split.{first_repetition, repetitions, split_of}
+use Rattle.def_meaning.specs.Run.{most_tests}
+use Rattle.law_examples.proofs.ReversalTrials.{unpopped_fails, unkept_fails, farther_fails, unended_fails, plain_fails, enclosed_fails, unread_fails, unheld_fails, late_fails, unbounded_fails, enlarged_fails}
 use Rattle.law_examples.proofs.reversals.wrong_reversals.Goals as goal
 
 pub returns-clause-unpopped : goal.returns-clause-unpopped
@@ -30,3 +36,10 @@ returns-clause-late c = late_fails
 
 pub returns-clause-unbounded : goal.returns-clause-unbounded
 returns-clause-unbounded c = unbounded_fails
+
+pub returns-clause-enlarged : goal.returns-clause-enlarged
+returns-clause-enlarged c = enlarged_fails
+
+pub returns-clause-enlarged_leaves : goal.returns-clause-enlarged_leaves
+unfolding int_wrap most_tests body split_of repetitions first_repetition choose
+returns-clause-enlarged_leaves c = refl
