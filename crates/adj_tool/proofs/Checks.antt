@@ -21,6 +21,7 @@ use Rattle.def_sweep.specs.MarkedAdjoint.{shadow_flags}
 use Rattle.def_sweep.specs.Marking.{ProgramMarks}
 use Rattle.law_emitted.specs.Shadowed.{AllHaveShadows}
 use Rattle.def_kernel.specs.Kernel.{EachUnit}
+use Rattle.def_adjoint.specs.KernelShape.{HasKernelShape}
 use Rattle.def_kernel.specs.Stepped.{kernel_of}
 use Rattle.law_kernel.specs.Sound.{IsAccepted}
 use Rattle.def_adjoint.specs.Adjoint.{IsAdjointOf}
@@ -46,7 +47,7 @@ use Rattle.adj_tool_check.specs.Agreeing.{AreAdjoint, Agrees, CheckAgrees, Check
 use Rattle.adj_tool_check.proofs.Readings.{alike_read}
 use Rattle.adj_tool.specs.Check.{AreSides, IsReadBack, IsChecked, IsCompared}
 use Rattle.adj_tool.specs.Headline.{RunsAdjoint}
-use Rattle.adj_tool.proofs.Runs.{runs_adjoint}
+use Rattle.adj_tool.proofs.Runs.{has_shape, runs_adjoint}
 use Rattle.adj_tool.specs.Fitting.{most_numbered, kernel_fits}
 use Rattle.adj_tool.specs.Headline.{IsUnit, flags_of}
 use Rattle.adj_tool.specs.Planned.{IsKnownFor, AreExact}
@@ -78,6 +79,9 @@ module _ (lines : List ℕ) (ps : List Procedure) (name : List ℕ) (h : Head) (
     -- and so are its looks and what its run takes
     pub runs_for : (others : List Procedure) → unlined qs ≡ unlined others → RunsAdjoint lines m ps name h.vars h.outvars others
     runs_for others same = let x = known.emitted in runs_adjoint ps accepted apart name u found h.vars h.outvars lines x.activity x.liveness x.saved x.held x.analysed others (ap unlined (sym x.emitted) ∙ same)
+
+    pub shape_for : (others : List Procedure) → unlined qs ≡ unlined others → HasKernelShape true m ps name h.vars h.outvars others
+    shape_for others same = let x = known.emitted in has_shape ps accepted apart name u found h.vars h.outvars lines x.activity x.liveness x.saved x.held x.analysed others (ap unlined (sym x.emitted) ∙ same)
 
     -- the shadows of the head are those of what it becomes
     pub shadows_are : (v : Procedure) → find_unit ps name ≡ Some v → shadowed ≡ shadow_flags (m.shadowed name) v.dummies
@@ -198,8 +202,11 @@ module _ (r : Asked) (vars outvars : List (List ℕ)) (lines : List ℕ) (ps : L
   runs_both : RunsAdjoint lines are_both.marks ps r.head h.vars h.outvars (read_back qs)
   runs_both = runs_for lines ps r.head h accepted qs adjoint shadowed known apart head.unit head.found (read_back qs) (alike_read qs runnable)
 
+  shape_both : HasKernelShape true are_both.marks ps r.head h.vars h.outvars (read_back qs)
+  shape_both = shape_for lines ps r.head h accepted qs adjoint shadowed known apart head.unit head.found (read_back qs) (alike_read qs runnable)
+
   pub is_checked : CheckTraps → (bytes : List ℕ) (a : Answer) → a ≡ check_answer r both bytes → IsChecked lines ps h r bytes a
-  is_checked law bytes a same = record { sides = both; are_sides = are_both; runs = runs_both; is = same; traps = law r both both_adjoint bytes }
+  is_checked law bytes a same = record { sides = both; are_sides = are_both; runs = runs_both; shape = shape_both; is = same; traps = law r both both_adjoint bytes }
 
   -- by the names that were asked for
   abbrev are_asked : AreSides lines ps r.head (head_of ps r.head vars outvars) both
@@ -222,6 +229,11 @@ module _ (r : Asked) (vars outvars : List (List ℕ)) (lines : List ℕ) (ps : L
       subst (λ v. RunsAdjoint lines are_both.marks ps r.head v (flags_of outvars head.unit.dummies) (read_back qs)) (vars_are ps r.head vars outvars sound h is)
       (subst (λ v. RunsAdjoint lines are_both.marks ps r.head h.vars v (read_back qs)) (outvars_are ps r.head vars outvars sound h is) runs_both)
 
+  shape_asked : HasKernelShape true are_both.marks ps r.head (flags_of vars head.unit.dummies) (flags_of outvars head.unit.dummies) (read_back qs)
+  shape_asked =
+      subst (λ v. HasKernelShape true are_both.marks ps r.head v (flags_of outvars head.unit.dummies) (read_back qs)) (vars_are ps r.head vars outvars sound h is)
+      (subst (λ v. HasKernelShape true are_both.marks ps r.head h.vars v (read_back qs)) (outvars_are ps r.head vars outvars sound h is) shape_both)
+
   pub is_compared : CheckAgrees → (bytes : List ℕ) (reads : ReadsLowered bytes ps) → KeepsRuns reads.shared → ReadsSplits bytes lines → (a : Answer) → a ≡ check_answer r both bytes → IsCompared r vars outvars bytes a
   unfolding both_adjoint are_adjoint
   is_compared law bytes reads keeps marked a same = λ done. record {
@@ -233,5 +245,6 @@ module _ (r : Asked) (vars outvars : List (List ℕ)) (lines : List ℕ) (ps : L
     sides = both;
     are_sides = are_asked;
     runs = runs_asked;
+    shape = shape_asked;
     agrees = subst (λ (z : Answer). Agrees r (lines_by ps are_both.marks) both bytes z.text) (sym same) (law r both both_adjoint bytes (ap (λ (z : Answer). z.status) (sym same) ∙ done));
   }

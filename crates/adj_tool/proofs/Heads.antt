@@ -41,6 +41,7 @@ use Rattle.law_analysed.proofs.Lending.{exact_shadows}
 use Rattle.def_text.specs.OrTooMany.{OrTooMany}
 use Rattle.law_limits.specs.Limits.{EmittedIsRunnableWith}
 use Rattle.law_names.proofs.Lines.{sound_lines}
+use Rattle.def_adjoint.specs.KernelShape.{HasKernelShape}
 use Rattle.def_flow.specs.Carried.{IsCarrying, carried_by}
 use Rattle.def_tangent.specs.IsTangent.{IsTangentOfSource}
 use Rattle.def_tangent.specs.Program.{tangent_for}
@@ -58,10 +59,10 @@ use Rattle.adj_tool_answer.specs.Answer.{Answer}
 use Rattle.adj_tool_answer.specs.Laws.{ProgramTold}
 use Rattle.def_refused.specs.TextFaults.{program_of}
 use Rattle.adj_tool_answer.proofs.BlocksKept.{blocks_kept}
-use Rattle.adj_tool.proofs.Runs.{runs_adjoint}
+use Rattle.adj_tool.proofs.Runs.{has_shape, runs_adjoint}
 use Rattle.adj_tool.specs.Fitting.{most_numbered, is_numbered, kernel_fits}
 use Rattle.adj_tool.specs.Answer.{most_bytes, IsWritten, IsTangentGiven, IsGiven}
-use Rattle.adj_tool.specs.Headline.{IsUnit, Rewrites, RunsAdjoint, ReadsFor, ReadsTangent, ReadsWritten, Writes, WritesAdjoint, WritesTangent, flags_of}
+use Rattle.adj_tool.specs.Headline.{IsUnit, IsCanonical, Rewrites, RunsAdjoint, ReadsFor, ReadsTangent, ReadsWritten, Writes, EmitsAdjoint, EmitsTangent, flags_of}
 
 -- where the head has no fault, it is there
 pub head_there : (ps : List Procedure) (name : List ℕ) (vars outvars : List (List ℕ)) → first_head_fault ps name vars outvars ≡ None → IsUnit ps name
@@ -123,10 +124,13 @@ module _ (r : Request) (ps : List Procedure) (h : Head) (sound : first_head_faul
   outvars_is : h.outvars ≡ flags_of r.outvars there.unit.dummies
   outvars_is = ap (λ (z : Head). z.outvars) is ∙ ap (λ o. flags_found o r.outvars) there.found
 
-  -- the text of what is emitted is a program, which has other lines than the one that was printed
-  rewrites : (qs : List Procedure) (text : List ℕ) → text ≡ text_of qs → (back : ReadsAs text qs) → IsSound run_rules back.0 → OrTooMany (λ found. unlined found ≡ unlined qs) (program_of Run (text_of qs)) →
-      ProgramTold → (bytes : List ℕ) (reads : ReadsLowered bytes ps) → KeepsRuns reads.shared → Rewrites r bytes text
-  rewrites qs text is_text back sound runs told bytes reads keeps = record {
+  -- it is an adjoint, and has the shape, by these marks
+  abbrev Adjoins : List ℕ → ProgramMarks → List Bool → List Bool → List Procedure → Type 0
+  Adjoins lines m vars outvars qs = RunsAdjoint lines m ps r.head vars outvars qs × HasKernelShape true m ps r.head vars outvars qs
+
+  -- the text of what is emitted is a program
+  rewrites : (qs : List Procedure) (text : List ℕ) (back : ReadsAs text qs) (bytes : List ℕ) (reads : ReadsLowered bytes ps) → KeepsRuns reads.shared → Rewrites r bytes text
+  rewrites qs text back bytes reads keeps = record {
     source = ps;
     reads = reads;
     keeps = keeps;
@@ -134,6 +138,13 @@ module _ (r : Request) (ps : List Procedure) (h : Head) (sound : first_head_faul
     is_head = there.found;
     emitted = back.0;
     reads_back = back.1;
+  }
+
+  -- it has other lines than the one that was printed
+  canonical : (qs : List Procedure) (text : List ℕ) → text ≡ text_of qs → (back : ReadsAs text qs) → IsSound run_rules back.0 → OrTooMany (λ found. unlined found ≡ unlined qs) (program_of Run (text_of qs)) → ProgramTold →
+      (bytes : List ℕ) (reads : ReadsLowered bytes ps) (keeps : KeepsRuns reads.shared) → IsCanonical r bytes text (rewrites qs text back bytes reads keeps)
+  unfolding rewrites
+  canonical qs text is_text back sound runs told bytes reads keeps = record {
     text = is_text ∙ one_text qs back.0 (sym back.2);
     runs = record {
       found = program_of Run text;
@@ -144,7 +155,7 @@ module _ (r : Request) (ps : List Procedure) (h : Head) (sound : first_head_faul
   }
 
   -- the program that the text is, is an adjoint of the text that reads as the program
-  pub head_adjoins : IsAccepted ps → EmittedIsRunnableWith true → ProgramTold → (lines : List ℕ) (text : List ℕ) → ReadsWritten lines ps r.head h text → (bytes : List ℕ) → length bytes ≤ most_bytes → ReadsSplits bytes lines → ReadsLowered bytes ps → program_of Source bytes ≡ Ok ps → WritesAdjoint r bytes text
+  pub head_adjoins : IsAccepted ps → EmittedIsRunnableWith true → ProgramTold → (lines : List ℕ) (text : List ℕ) → ReadsWritten lines ps r.head h text → (bytes : List ℕ) → length bytes ≤ most_bytes → ReadsSplits bytes lines → ReadsLowered bytes ps → program_of Source bytes ≡ Ok ps → EmitsAdjoint r bytes text
   unfolding rewrites
   head_adjoins accepted runnable told lines text back bytes few marked reads given =
       let x = back.exact in
@@ -156,20 +167,26 @@ module _ (r : Request) (ps : List Procedure) (h : Head) (sound : first_head_faul
       subst (λ n. AllHaveShadows n (kernel_of ps) (kernel_of ps)) (sym x.are) (exact_shadows run_rules (split_problem lines ps r.head h.vars h.outvars) (kernel_checked ps accepted) x.activity x.analysed.active m refl (λ n. refl)) in
       let may : AllMaySplit true back.marks (kernel_of ps) (kernel_of ps) = subst (λ n. AllMaySplit true n (kernel_of ps) (kernel_of ps)) (sym x.are) (planned.splits ps accepted lines true m refl) in
       let runs : OrTooMany (λ found. unlined found ≡ unlined qs) (program_of Run (text_of qs)) = runnable bytes ps given accepted narrow back.marks shadows may (unit_number (kernel_of ps) r.head) h.vars h.outvars in
+      let keeps : KeepsRuns reads.shared = blocks_kept source_rules Source bytes ps given accepted.sound reads in
+      let exact : Adjoins lines m h.vars h.outvars back.reads.0 = (runs_adjoint ps accepted (lines_apart bytes ps few reads) r.head there.unit there.found h.vars h.outvars lines x.activity x.liveness x.saved x.held x.analysed back.reads.0 same, has_shape ps accepted (lines_apart bytes ps few reads) r.head there.unit there.found h.vars h.outvars lines x.activity x.liveness x.saved x.held x.analysed back.reads.0 same) in
+      let both : Adjoins lines back.marks (flags_of r.vars there.unit.dummies) (flags_of r.outvars there.unit.dummies) back.reads.0 =
+      subst (λ n. Adjoins lines n (flags_of r.vars there.unit.dummies) (flags_of r.outvars there.unit.dummies) back.reads.0) (sym x.are)
+      (subst (λ v. Adjoins lines m v (flags_of r.outvars there.unit.dummies) back.reads.0) vars_is (subst (λ v. Adjoins lines m h.vars v back.reads.0) outvars_is exact)) in
       record {
-        programs = rewrites qs text back.is_text back.reads (planned.reversed_sound ps accepted r.head h.vars h.outvars lines x.activity x.liveness x.saved x.held x.analysed back.reads.0 same) runs told bytes reads (blocks_kept source_rules Source bytes ps given accepted.sound reads);
-        splits = lines;
-        reads_splits = marked;
-        marks = back.marks;
-        exact = subst (λ z. AreExact lines ps r.head z back.marks) is x;
-        adjoins =
-            subst (λ n. RunsAdjoint lines n ps r.head (flags_of r.vars there.unit.dummies) (flags_of r.outvars there.unit.dummies) back.reads.0) (sym x.are)
-            (subst (λ v. RunsAdjoint lines m ps r.head v (flags_of r.outvars there.unit.dummies) back.reads.0) vars_is (subst (λ v. RunsAdjoint lines m ps r.head h.vars v back.reads.0) outvars_is
-            (runs_adjoint ps accepted (lines_apart bytes ps few reads) r.head there.unit there.found h.vars h.outvars lines x.activity x.liveness x.saved x.held x.analysed back.reads.0 same)));
+        adjoint = record {
+          programs = rewrites qs text back.reads bytes reads keeps;
+          splits = lines;
+          reads_splits = marked;
+          marks = back.marks;
+          exact = subst (λ z. AreExact lines ps r.head z back.marks) is x;
+          adjoins = both.0;
+        };
+        canonical = canonical qs text back.is_text back.reads (planned.reversed_sound ps accepted r.head h.vars h.outvars lines x.activity x.liveness x.saved x.held x.analysed back.reads.0 same) runs told bytes reads keeps;
+        shape = both.1;
       }
 
   -- the program that the text is, is the tangent of the text that reads as the program
-  pub head_tangents : IsAccepted ps → TangentIsRunnable → ProgramTold → (text : List ℕ) → ReadsTangent ps r.head h text → (bytes : List ℕ) → ReadsLowered bytes ps → program_of Source bytes ≡ Ok ps → WritesTangent r bytes text
+  pub head_tangents : IsAccepted ps → TangentIsRunnable → ProgramTold → (text : List ℕ) → ReadsTangent ps r.head h text → (bytes : List ℕ) → ReadsLowered bytes ps → program_of Source bytes ≡ Ok ps → EmitsTangent r bytes text
   unfolding rewrites there
   head_tangents accepted runnable told text back bytes reads given =
       let k = kernel_problem ps r.head h.vars h.outvars in
@@ -177,12 +194,16 @@ module _ (r : Request) (ps : List Procedure) (h : Head) (sound : first_head_faul
       let narrow : EachUnit (λ v. length (variables v) ≤ most_numbered) (kernel_of ps) = few_variables (kernel_of ps) (fits_widest (kernel_of ps) back.fits) in
       let runs : OrTooMany (λ found. unlined found ≡ unlined qs) (program_of Run (text_of qs)) = runnable bytes ps given accepted narrow k refl back.varied back.carried back.exact in
       let sound : IsSound run_rules back.reads.0 = sound_lines run_rules qs back.reads.0 (sym back.reads.2) (tangent_is_sound run_rules k (kernel_checked ps accepted) (omega arith) back.varied back.carried back.exact) in
+      let keeps : KeepsRuns reads.shared = blocks_kept source_rules Source bytes ps given accepted.sound reads in
       record {
-        programs = rewrites qs text back.is_text back.reads sound runs told bytes reads (blocks_kept source_rules Source bytes ps given accepted.sound reads);
-        varied = back.varied;
-        carried = back.carried;
-        exact = subst (λ v. IsCarrying (kernel_problem ps r.head v (flags_of r.outvars there.unit.dummies)) back.varied back.carried) vars_is (subst (λ v. IsCarrying (kernel_problem ps r.head h.vars v) back.varied back.carried) outvars_is back.exact);
-        is_tangent = subst (λ v. IsTangentOfSource (carried_by (kernel_of ps) back.carried) ps r.head v back.reads.0) vars_is (accepted_by_weight ps accepted r.head there.unit there.found h.vars h.outvars back.varied back.carried back.exact back.reads.0 (sym back.reads.2));
+        tangent = record {
+          programs = rewrites qs text back.reads bytes reads keeps;
+          varied = back.varied;
+          carried = back.carried;
+          exact = subst (λ v. IsCarrying (kernel_problem ps r.head v (flags_of r.outvars there.unit.dummies)) back.varied back.carried) vars_is (subst (λ v. IsCarrying (kernel_problem ps r.head h.vars v) back.varied back.carried) outvars_is back.exact);
+          is_tangent = subst (λ v. IsTangentOfSource (carried_by (kernel_of ps) back.carried) ps r.head v back.reads.0) vars_is (accepted_by_weight ps accepted r.head there.unit there.found h.vars h.outvars back.varied back.carried back.exact back.reads.0 (sym back.reads.2));
+        };
+        canonical = canonical qs text back.is_text back.reads sound runs told bytes reads keeps;
       }
 
   -- the text that was wanted is what it is to be

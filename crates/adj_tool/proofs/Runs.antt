@@ -16,11 +16,14 @@ use Rattle.def_flow.specs.Analysed.{Analysed}
 use Rattle.def_flow.specs.Splits.{is_line, split_calls}
 use Rattle.def_adjoint.specs.Calls.{CallsWithin}
 use Rattle.def_adjoint.specs.KernelSpends.{HaveVariables, KernelSpendsAtMost}
-use Rattle.def_planned.specs.Planned.{split_problem, lines_by, reversed_for, marks_by}
+use Rattle.def_adjoint.specs.KernelShape.{HasKernelShape}
+use Rattle.def_planned.specs.Planned.{split_problem, facts_by, lines_by, reversed_for, marks_by}
 use Rattle.law_analysed.specs.MarkedLines.{program_lines, AreLinesApart}
+use Rattle.law_analysed.proofs.MarkedLines.{stand_apart}
 use Rattle.law_cost.proofs.KernelSpending.{round_split_bound_is_kept}
 use Rattle.law_planned.proofs.Planned as planned
 use Rattle.law_planned.proofs.OwnNames.{own_names}
+use Rattle.law_planned.proofs.MarkedLines.{kernel_apart}
 use Rattle.law_shape.proofs.Accepted.{accepted_has_shape}
 use Rattle.adj_tool.specs.Headline.{RunsAdjoint}
 
@@ -40,8 +43,12 @@ module _ (ps : List Procedure) (accepted : IsAccepted ps) (apart : AreLinesApart
   runs_adjoint = record {
     adjoins = planned.is_reversed ps accepted apart name u found vars outvars lines a l saved held x qs same;
     own_names = own_names ps accepted m;
-    shape = accepted_has_shape true ps accepted name u found vars outvars (split_calls (is_line lines) (kernel_of ps)) a l saved held x (planned.splits ps accepted lines true m refl) qs same;
+    lines_apart = stand_apart (facts_by m) (kernel_of ps) (kernel_apart ps apart);
     spends = λ none unsplit weight calls weighs few. planned.reversed_spends ps accepted none weight weighs name u found calls few vars outvars lines unsplit a l saved held x qs same;
     spends_reversed = bound;
     spends_within = λ weight count calls weighs have few. round_split_bound_is_kept (lines_by ps m) m ps name weight count calls qs (split_bound weight count calls weighs have few);
   }
+
+  -- and it has the shape that the marks say
+  pub has_shape : HasKernelShape true m ps name vars outvars qs
+  has_shape = accepted_has_shape true ps accepted name u found vars outvars (split_calls (is_line lines) (kernel_of ps)) a l saved held x (planned.splits ps accepted lines true m refl) qs same

@@ -106,18 +106,6 @@ request_asked rows =
     then with_request (option_and_then name_of (first_of (codes "head") rows)) (option_and_then names_of (first_of (codes "vars") rows)) (option_and_then names_of (first_of (codes "outvars") rows))
     else None
 
--- adjoint with these
-abbrev pub adjoint_asked : List Row → Option Command
-adjoint_asked rows = option_map Adjoint (request_asked rows)
-
--- tangent with these
-abbrev pub tangent_asked : List Row → Option Command
-tangent_asked rows = option_map Tangent (request_asked rows)
-
--- plan with these
-abbrev pub plan_asked : List Row → Option Command
-plan_asked rows = option_map Plan (request_asked rows)
-
 -- the number of an option, or another where the option is absent
 abbrev pub number_or : ℕ → ℕ → ℕ → Option Text → Option ℕ
 number_or other least most None = Some other
@@ -135,26 +123,22 @@ limits_asked rows = with_limits (option_and_then name_of (first_of (codes "head"
 abbrev pub run_asked : List Row → Option Command
 run_asked rows = if lacks (codes "numbers" ∷ codes "vars" ∷ codes "outvars" ∷ []) rows then option_map Run (limits_asked rows) else None
 
-abbrev pub with_lists : Option Asked → Option (List Text) → Option (List Text) → Option Command
-with_lists (Some r) (Some vars) (Some outvars) = Some (Check r vars outvars)
-with_lists _ _ _ = None
+abbrev pub with_lists : (Asked → List (List ℕ) → List (List ℕ) → Command) → Option Asked → Option (List Text) → Option (List Text) → Option Command
+with_lists command (Some r) (Some vars) (Some outvars) = Some (command r vars outvars)
+with_lists _ _ _ _ = None
 
 -- check with these, --vars LIST and --outvars LIST
 abbrev pub check_asked : List Row → Option Command
 check_asked rows =
     if lacks (codes "numbers" ∷ []) rows
-    then with_lists (limits_asked rows) (option_and_then names_of (first_of (codes "vars") rows)) (option_and_then names_of (first_of (codes "outvars") rows))
+    then with_lists Check (limits_asked rows) (option_and_then names_of (first_of (codes "vars") rows)) (option_and_then names_of (first_of (codes "outvars") rows))
     else None
-
-abbrev pub with_columns : Option Asked → Option (List Text) → Option (List Text) → Option Command
-with_columns (Some r) (Some vars) (Some outvars) = Some (Jacobian r vars outvars)
-with_columns _ _ _ = None
 
 -- jacobian with --head NAME, --vars LIST, --outvars LIST, and at most 100000000 statements for each run or --budget N
 abbrev pub jacobian_asked : List Row → Option Command
 jacobian_asked rows =
     if lacks (codes "numbers" ∷ codes "tape" ∷ []) rows
-    then with_columns (limits_asked rows) (option_and_then names_of (first_of (codes "vars") rows)) (option_and_then names_of (first_of (codes "outvars") rows))
+    then with_lists Jacobian (limits_asked rows) (option_and_then names_of (first_of (codes "vars") rows)) (option_and_then names_of (first_of (codes "outvars") rows))
     else None
 
 -- steps and snapshots
@@ -188,9 +172,9 @@ sample_asked rows = if lacks_options rows then option_and_then number_asked (all
 -- the place where commands are listed
 abbrev pub command_asked : Text → List Row → Option Command
 command_asked name rows =
-    if bytes_eq name (codes "adjoint") then adjoint_asked rows
-    else (if bytes_eq name (codes "tangent") then tangent_asked rows
-    else (if bytes_eq name (codes "plan") then plan_asked rows
+    if bytes_eq name (codes "adjoint") then option_map Adjoint (request_asked rows)
+    else (if bytes_eq name (codes "tangent") then option_map Tangent (request_asked rows)
+    else (if bytes_eq name (codes "plan") then option_map Plan (request_asked rows)
     else (if bytes_eq name (codes "run") then run_asked rows
     else (if bytes_eq name (codes "check") then check_asked rows
     else (if bytes_eq name (codes "jacobian") then jacobian_asked rows

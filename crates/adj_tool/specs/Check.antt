@@ -14,6 +14,7 @@ use Rattle.def_names.specs.HeadFaults.{first_head_fault, head_of}
 use Rattle.def_sweep.specs.MarkedAdjoint.{shadow_flags}
 use Rattle.def_sweep.specs.Marking.{ProgramMarks}
 use Rattle.def_sweep.specs.Names.{adjoint_name}
+use Rattle.def_adjoint.specs.KernelShape.{HasKernelShape}
 use Rattle.def_kernel.specs.Stepped.{kernel_of}
 use Rattle.def_planned.specs.Planned.{lines_by, reversed_for}
 use Rattle.adj_tool_answer.specs.Answer.{Answer, refused, too_long}
@@ -52,6 +53,7 @@ pub record IsChecked (lines : List ℕ) (ps : List Procedure) (h : Head) (r : As
   pub sides : Sides
   pub are_sides : AreSides lines ps r.head h sides
   pub runs : RunsAdjoint lines are_sides.marks ps r.head h.vars h.outvars sides.emitted
+  pub shape : HasKernelShape true are_sides.marks ps r.head h.vars h.outvars sides.emitted
   pub is : a ≡ check_answer r sides bytes
   pub traps : TrapsAlone r sides bytes
 
@@ -99,6 +101,7 @@ pub record ChecksAdjoint (r : Asked) (vars outvars : List (List ℕ)) (bytes tex
   pub sides : Sides
   pub are_sides : AreSides splits source r.head (head_of source r.head vars outvars) sides
   pub runs : RunsAdjoint splits are_sides.marks source r.head (flags_of vars sides.head.dummies) (flags_of outvars sides.head.dummies) sides.emitted
+  pub shape : HasKernelShape true are_sides.marks source r.head (flags_of vars sides.head.dummies) (flags_of outvars sides.head.dummies) sides.emitted
   pub agrees : Agrees r (lines_by source are_sides.marks) sides bytes text
 
 -- where the answer to these bytes is done

@@ -1,5 +1,5 @@
 -- Headline: what the written text is.
-use Rattle.std.specs.Prelude.{◌≡◌, ℕ, List, [], map, Bool, true, Some}
+use Rattle.std.specs.Prelude.{◌≡◌, ℕ, List, [], ◌∷◌, ◌++◌, map, Bool, true, Some}
 use Rattle.adj_tree.specs.Code.{Procedure}
 use Rattle.adj_tree.specs.Lines.{unlined}
 use Rattle.def_text.specs.Reads.{Reads, ReadsSplits}
@@ -14,6 +14,7 @@ use Rattle.def_names.specs.Check.{IsSound}
 use Rattle.def_names.specs.HeadFaults.{head_of}
 use Rattle.def_names.specs.Numbers.{Vars}
 use Rattle.def_sweep.specs.Marking.{ProgramMarks}
+use Rattle.def_sweep.specs.MarkedLines.{Tale, tales_of}
 use Rattle.def_kernel.specs.Kernel.{EachUnit}
 use Rattle.def_kernel.specs.Weights.{WeighsAtMost}
 use Rattle.def_adjoint.specs.CallsAtMost.{CallsAtMost}
@@ -21,7 +22,7 @@ use Rattle.def_adjoint.specs.Calls.{CallsWithin}
 use Rattle.def_adjoint.specs.Spends.{SpendsAtMost}
 use Rattle.def_adjoint.specs.KernelSpends.{HaveVariables, KernelSpendsAtMost, KernelSpendsWithin}
 use Rattle.def_adjoint.specs.Adjoint.{HaveOwnNames, IsAdjointOf}
-use Rattle.def_planned.specs.Planned.{HasNoMarks, kernel_problem, lines_by, reversed_for}
+use Rattle.def_planned.specs.Planned.{HasNoMarks, kernel_problem, facts_by, lines_by, reversed_for}
 use Rattle.def_flow.specs.Carried.{IsCarrying, carried_by}
 use Rattle.def_tangent.specs.IsTangent.{IsTangentOfSource}
 use Rattle.def_tangent.specs.Program.{tangent_for}
@@ -46,14 +47,14 @@ pub record IsUnit (ps : List Procedure) (name : List ℕ) : Type 0 where
 abbrev pub flags_of : List (List ℕ) → List (List ℕ) → List Bool
 flags_of listed names = map (λ x. has_name x listed) names
 
--- A program is an adjoint of a program for the unit of a name as its head, in which marked loops are reversed by schedules, and looks as one that is emitted by
--- these marks, which split the calls at these lines; and its run takes so many statements.
+-- A program is an adjoint of a program for the unit of a name as its head, in which marked loops are reversed by schedules, by these marks, which split the calls at these
+-- lines; and its run takes so many statements.
 pub record RunsAdjoint (splits : List ℕ) (m : ProgramMarks) (ps : List Procedure) (name : List ℕ) (vars outvars : List Bool) (qs : List Procedure) : Type 0 where
   -- the marked loops that it reverses by schedules are those whose step call is adjointed, and their step units have other names than their adjoints
   pub adjoins : IsAdjointOf (lines_by ps m) m ps name vars outvars qs
   pub own_names : HaveOwnNames (lines_by ps m)
-  -- it has the units, and each of its adjoint units keeps, saves, pushes and sets what these marks say
-  pub shape : HasKernelShape true m ps name vars outvars qs
+  -- so the lines tell them apart: no two marked loops of the kernel stand at one
+  pub lines_apart : (a b c : List Tale) (s t : Tale) → tales_of (facts_by m) (kernel_of ps) ≡ a ++ (s ∷ (b ++ (t ∷ c))) → s.0 ≡ t.0 → ⊥
   -- Where no loop of the source is marked, and no call split: by what a statement of the source weighs at most, and by how many calls a chain from the head has at most,
   -- its run takes so many statements for each one of the source's own run: within 40 * weight * (calls + 2), and two for each dummy of the head.
   pub spends : HasNoMarks ps → splits ≡ [] → (weight calls : ℕ) → EachUnit (λ u. WeighsAtMost weight u.body) ps → CallsAtMost ps name calls → SpendsAtMost m ps name weight calls qs
@@ -64,8 +65,7 @@ pub record RunsAdjoint (splits : List ℕ) (m : ProgramMarks) (ps : List Procedu
   -- Whether calls are split or not, with the number of variables that a unit of the kernel has at most: within 100 * (weight + variables) * (calls + 2) * (repetitions + 2)
   pub spends_within : (weight count calls : ℕ) → EachUnit (λ u. WeighsAtMost weight u.body) (kernel_of ps) → HaveVariables count (kernel_of ps) → CallsWithin (kernel_of ps) name calls → KernelSpendsWithin (lines_by ps m) m ps name weight count calls qs
 
--- the bytes that were read are a program, in which members of blocks are dummies, and whose unit of the name asked for is the head; the bytes that were written are a program too, and the
--- canonical text of that program; and it has no fault as one that is run
+-- the bytes that were read are a program, in which members of blocks are dummies, and whose unit of the name asked for is the head; and the bytes that were written are a program
 pub record Rewrites (r : Request) (bytes written : List ℕ) : Type 0 where
   pub source : List Procedure
   pub reads : ReadsLowered bytes source
@@ -76,11 +76,6 @@ pub record Rewrites (r : Request) (bytes written : List ℕ) : Type 0 where
   -- what the written bytes are, with the lines at which its units and statements stand there
   pub emitted : List Procedure
   pub reads_back : Reads written emitted
-  pub text : written ≡ text_of emitted
-  -- as a text that is run they read as it, up to line numbers, unless they have more statements than a run takes
-  pub runs : TextIs Run (OrTooMany (λ found. unlined found ≡ unlined emitted)) written
-  -- and it has no fault of units, names, calls, chains and writes there
-  pub sound : IsSound run_rules emitted
 
 -- the program that was written is an adjoint of the one that was read, for the head with its independents and dependents
 pub record WritesAdjoint (r : Request) (bytes written : List ℕ) : Type 0 where
@@ -103,6 +98,26 @@ pub record WritesTangent (r : Request) (bytes written : List ℕ) : Type 0 where
   -- its run on values and tangents is the dual run of the head, and takes at most twice as many statements for each one of the kernel's dual run as a
   -- statement of the kernel weighs, and one for each dummy of the head
   pub is_tangent : IsTangentOfSource (carried_by (kernel_of programs.source) carried) programs.source r.head (flags_of r.vars programs.unit.dummies) programs.emitted
+
+-- ---- how what was written looks
+
+-- the bytes that were written are the canonical text of their program, which can be run
+pub record IsCanonical (r : Request) (bytes written : List ℕ) (p : Rewrites r bytes written) : Type 0 where
+  pub text : written ≡ text_of p.emitted
+  -- as a text that is run they read as it, up to line numbers, unless they have more statements than a run takes
+  pub runs : TextIs Run (OrTooMany (λ found. unlined found ≡ unlined p.emitted)) written
+  -- and it has no fault of units, names, calls, chains and writes there
+  pub sound : IsSound run_rules p.emitted
+
+-- an adjoint that has the units, each of which keeps, saves, pushes and sets what the marks say
+pub record EmitsAdjoint (r : Request) (bytes written : List ℕ) : Type 0 where
+  pub adjoint : WritesAdjoint r bytes written
+  pub canonical : IsCanonical r bytes written adjoint.programs
+  pub shape : HasKernelShape true adjoint.marks adjoint.programs.source r.head (flags_of r.vars adjoint.programs.unit.dummies) (flags_of r.outvars adjoint.programs.unit.dummies) adjoint.programs.emitted
+
+pub record EmitsTangent (r : Request) (bytes written : List ℕ) : Type 0 where
+  pub tangent : WritesTangent r bytes written
+  pub canonical : IsCanonical r bytes written tangent.programs
 
 -- ---- what is asked of the text
 
@@ -133,8 +148,8 @@ ReadsBack w a lines ps name h = a.status ≡ 0 → ReadsFor w lines ps name h a.
 
 -- where the answer to these bytes is done, its text is that of an adjoint, or of a tangent
 abbrev pub Writes : Wanted → Request → List ℕ → List ℕ → Type 0
-Writes wanted.Adjoint r = WritesAdjoint r
-Writes wanted.Tangent r = WritesTangent r
+Writes wanted.Adjoint r = EmitsAdjoint r
+Writes wanted.Tangent r = EmitsTangent r
 Writes wanted.Plan r = λ bytes text. Unit {0}
 
 abbrev pub IsTransformed : Wanted → Request → List ℕ → Answer → Type 0

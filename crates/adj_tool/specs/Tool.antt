@@ -7,7 +7,7 @@ use Rattle.adj_tool_run.specs.Running.{AnswersRun}
 use Rattle.adj_tool_jacobian.specs.Jacobian as jacobian
 use Rattle.adj_tool_jacobian.specs.Jacobian.{AnswersJacobian}
 use Rattle.adj_tool.specs.Arguments.{Command, Adjoint, Tangent, Plan, Run, Check, Jacobian, Schedule, Sample}
-use Rattle.adj_tool.specs.Headline.{WritesAdjoint, WritesTangent}
+use Rattle.adj_tool.specs.Headline.{WritesAdjoint, WritesTangent, EmitsAdjoint, EmitsTangent}
 use Rattle.adj_tool.specs.Check.{AnswersCheck, ChecksAdjoint}
 use Rattle.adj_tool.specs.Sample.{AnswersSample, SamplesAdjoint}
 use Rattle.adj_tool.specs.Answer.{schedule_answer, AnswersWanted, most_bytes}
@@ -39,15 +39,10 @@ IsAnswer (Some (Jacobian r vars outvars)) before after a = AnswersInput jacobian
 
 -- the arguments ask for a command that reads
 abbrev pub ReadsInput : Option Command → Type 0
-ReadsInput (Some (Adjoint r)) = Unit {0}
-ReadsInput (Some (Tangent r)) = Unit {0}
-ReadsInput (Some (Plan r)) = Unit {0}
-ReadsInput (Some (Run r)) = Unit {0}
-ReadsInput (Some (Check r vars outvars)) = Unit {0}
-ReadsInput (Some (Jacobian r vars outvars)) = Unit {0}
 ReadsInput (Some (Schedule l s)) = ⊥
 ReadsInput (Some (Sample n)) = ⊥
 ReadsInput None = ⊥
+ReadsInput _ = Unit {0}
 
 -- the answer was written whole, and the status is its own
 pub record WritesAll (asked : Option Command) (before after written_before written_after : Option (List ℕ)) (status : ℕ) : Type 0 where
@@ -82,15 +77,25 @@ pub record TransformsInput (Is : List ℕ → List ℕ → Type 0) (before after
 
 -- the answer's text is that of an adjoint or of a tangent, where one was asked for
 abbrev pub IsWrittenTo : Option Command → Option (List ℕ) → Option (List ℕ) → List ℕ → Type 0
-IsWrittenTo (Some (Adjoint r)) before after text = TransformsInput (WritesAdjoint r) before after text
-IsWrittenTo (Some (Tangent r)) before after text = TransformsInput (WritesTangent r) before after text
+IsWrittenTo (Some (Adjoint r)) before after text = TransformsInput (EmitsAdjoint r) before after text
+IsWrittenTo (Some (Tangent r)) before after text = TransformsInput (EmitsTangent r) before after text
 IsWrittenTo _ before after text = Unit {0}
 
--- the theorems of `adjoint` and of `tangent`
+-- the theorem of `adjoint`
 abbrev pub IsHeadline : Option Command → Option (List ℕ) → Option (List ℕ) → Option (List ℕ) → Option (List ℕ) → Type 0
 IsHeadline (Some (Adjoint r)) before after written_before written_after = Transforms (WritesAdjoint r) before after written_before written_after
-IsHeadline (Some (Tangent r)) before after written_before written_after = Transforms (WritesTangent r) before after written_before written_after
 IsHeadline _ before after written_before written_after = Unit {0}
+
+-- the theorem of `tangent`
+abbrev pub IsTangent : Option Command → Option (List ℕ) → Option (List ℕ) → Option (List ℕ) → Option (List ℕ) → Type 0
+IsTangent (Some (Tangent r)) before after written_before written_after = Transforms (WritesTangent r) before after written_before written_after
+IsTangent _ before after written_before written_after = Unit {0}
+
+-- and how what both write looks
+abbrev pub IsEmitted : Option Command → Option (List ℕ) → Option (List ℕ) → Option (List ℕ) → Option (List ℕ) → Type 0
+IsEmitted (Some (Adjoint r)) before after written_before written_after = Transforms (EmitsAdjoint r) before after written_before written_after
+IsEmitted (Some (Tangent r)) before after written_before written_after = Transforms (EmitsTangent r) before after written_before written_after
+IsEmitted _ before after written_before written_after = Unit {0}
 
 -- what was written is the short answer of a check of the sample, of which the text tells equal products
 pub record Samples (n : ℕ) (written_before written_after : Option (List ℕ)) : Type 0 where

@@ -1,7 +1,7 @@
 //! The arguments of a command, as `clap` reads them.
 
 ghost use Rattle.std.specs.Prelude.{◌≡◌, ◌≤◌, false, not, is_some, ℕ, List, ◌∷◌, IfOk, IfSome, Option, option_map, option_and_then, map, codes};
-ghost use Rattle.adj_tool.specs.Arguments.{bare_program, program, command_rule, numbers_rule, option_rule, lacks, name_of, names_of, request_asked, adjoint_asked, tangent_asked, plan_asked, number_or, limits_asked, run_asked, check_asked, jacobian_asked, lacks_options, schedule_asked, numbers_asked, sample_asked, number_asked, command_asked, asked, taken};
+ghost use Rattle.adj_tool.specs.Arguments.{Adjoint, Tangent, Plan, bare_program, program, command_rule, numbers_rule, option_rule, lacks, name_of, names_of, request_asked, number_or, limits_asked, run_asked, check_asked, jacobian_asked, lacks_options, schedule_asked, numbers_asked, sample_asked, number_asked, command_asked, asked, taken};
 ghost use Rattle.adj_tool_answer.specs.EndingViews.{asked_of};
 ghost use Rattle.adj_tool.specs.Views.{command_of, some_request};
 ghost use Rattle.clap.specs.Simple.{app_of, with_rule};
@@ -139,7 +139,7 @@ fn request_asked(alloc: Global, matches: &ArgMatches<'_>) -> Result<Option<Reque
 
 // adjoint with these
 fn adjoint_task(alloc: Global, matches: &ArgMatches<'_>) -> Result<Option<Task>, Memory>
-    ensures { IfOk result (λ r. option_map command_of r ≡ adjoint_asked (rows_of (found_of matches.now))) }
+    ensures { IfOk result (λ r. option_map command_of r ≡ option_map Adjoint (request_asked (rows_of (found_of matches.now)))) }
 {
     match request_asked(alloc, matches)? {
         Some(request) => Ok(Some(Task::Adjoint(request))),
@@ -149,7 +149,7 @@ fn adjoint_task(alloc: Global, matches: &ArgMatches<'_>) -> Result<Option<Task>,
 
 // tangent with these
 fn tangent_task(alloc: Global, matches: &ArgMatches<'_>) -> Result<Option<Task>, Memory>
-    ensures { IfOk result (λ r. option_map command_of r ≡ tangent_asked (rows_of (found_of matches.now))) }
+    ensures { IfOk result (λ r. option_map command_of r ≡ option_map Tangent (request_asked (rows_of (found_of matches.now)))) }
 {
     match request_asked(alloc, matches)? {
         Some(request) => Ok(Some(Task::Tangent(request))),
@@ -159,7 +159,7 @@ fn tangent_task(alloc: Global, matches: &ArgMatches<'_>) -> Result<Option<Task>,
 
 // plan with these
 fn plan_task(alloc: Global, matches: &ArgMatches<'_>) -> Result<Option<Task>, Memory>
-    ensures { IfOk result (λ r. option_map command_of r ≡ plan_asked (rows_of (found_of matches.now))) }
+    ensures { IfOk result (λ r. option_map command_of r ≡ option_map Plan (request_asked (rows_of (found_of matches.now)))) }
 {
     match request_asked(alloc, matches)? {
         Some(request) => Ok(Some(Task::Plan(request))),

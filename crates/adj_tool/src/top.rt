@@ -7,7 +7,7 @@ ghost use Rattle.adj_tool_answer.specs.Views.{answer_of};
 ghost use Rattle.adj_tool.specs.Answer.{AnswersWanted, most_bytes};
 ghost use Rattle.adj_tool.specs.Headline.{Writes};
 ghost use Rattle.adj_tool.specs.Views.{request_of};
-ghost use Rattle.adj_tool.specs.Tool.{AnswersInput, IsAnswer, IsComparedTo, IsComparison, IsHeadline, IsWrittenTo, ReadsInput, TransformsInput, WritesAll, WritesFront};
+ghost use Rattle.adj_tool.specs.Tool.{AnswersInput, IsAnswer, IsComparedTo, IsComparison, IsEmitted, IsHeadline, IsTangent, IsWrittenTo, ReadsInput, TransformsInput, WritesAll, WritesFront};
 
 use crate::answering::answer_wanted;
 use crate::arguments::take;
@@ -114,8 +114,12 @@ pub fn tool<S: Source, K: Sink>(
     ensures write_fault { result ≡ 8 → Rose (K.faults output.old) (K.faults output.new) }
     ensures front { result ≡ 8 → WritesFront (taken arguments.now) (S.left input.old) (S.left input.new) (K.taken output.old) (K.taken output.new) }
     ensures unwritten { (result ≡ 7) ⊎ (result ≡ 9) → K.taken output.new ≡ K.taken output.old }
-    // Where `adjoint` is done, what was written is an adjoint of what was read; where `tangent` is done, its tangent.
+    // Where `adjoint` is done, what was written is an adjoint of what was read.
     ensures headline { result ≡ 0 → IsHeadline (taken arguments.now) (S.left input.old) (S.left input.new) (K.taken output.old) (K.taken output.new) }
+    // Where `tangent` is done, it is the tangent of what was read.
+    ensures tangent { result ≡ 0 → IsTangent (taken arguments.now) (S.left input.old) (S.left input.new) (K.taken output.old) (K.taken output.new) }
+    // What both write is a canonical text that can be run, and an adjoint keeps, saves and pushes what its marks say.
+    ensures emitted { result ≡ 0 → IsEmitted (taken arguments.now) (S.left input.old) (S.left input.new) (K.taken output.old) (K.taken output.new) }
     // Where `check` or `sample` is done, the two products that were written are equal, and the adjoint never trapped.
     ensures compared { result ≡ 0 → IsComparison (taken arguments.now) (S.left input.old) (S.left input.new) (K.taken output.old) (K.taken output.new) }
     ensures status { result < 10 }
