@@ -6,16 +6,8 @@ ghost use Rattle.adj_reach.specs.Edges.{flag};
 ghost use Rattle.adj_tree.specs.Bits.{bit};
 ghost use Rattle.adj_reach_rows.specs.Searches.{place_of};
 
-use adj_tree::{BitFlags, Memory};
+use adj_tree::{BitFlags, Memory, has_bit};
 use std::alloc::Global;
-
-// Whether a word has a bit.
-fn has(word: u64, column: usize) -> bool
-    requires { column < 64 }
-    ensures { result ≡ (bit_at word column == 1) }
-{
-    word >> column & 1 == 1
-}
 
 // Sets a flag, if it is to be set.
 fn set_if(flags: &mut BitFlags, place: usize, is_set: bool)
@@ -40,7 +32,7 @@ fn set_word(flags: &mut BitFlags, at: usize, word: u64, columns: usize)
     ensures word { (j : ℕ) → j < columns → flag flags.new (at + j) ≡ (bit_at word j == 1) }
 {
     for column in 0..columns {
-        set_if(flags, at + column, has(word, column));
+        set_if(flags, at + column, has_bit(word, column));
     }
 }
 

@@ -42,8 +42,8 @@ fn zeros(alloc: Global, count: usize) -> Result<Vec<u64>, Memory>
     Ok(vec![in alloc; 0u64; count]?)
 }
 
-// Whether a word has a bit.
-fn has(word: u64, column: usize) -> bool
+/// Whether a word has the bit of a column.
+pub fn has_bit(word: u64, column: usize) -> bool
     requires { column < 64 }
     ensures { result ≡ (bit_at word column == 1) }
 {
@@ -83,7 +83,7 @@ impl BitFlags {
     pub fn at(&self, n: usize) -> bool
         ensures { result ≡ slice_index_or self.now n false }
     {
-        has(word_at(self.words.as_slice(), n / 64), n % 64)
+        has_bit(word_at(self.words.as_slice(), n / 64), n % 64)
     }
 
     /// Makes the value of a number true.
