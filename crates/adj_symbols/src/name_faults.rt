@@ -5,7 +5,8 @@ ghost use Rattle.adj_tree.specs.View.{terms_of, act_of, declaration_of, procedur
 ghost use Rattle.def_meaning.specs.Written.{find_unit};
 ghost use Rattle.def_names.specs.Reserved.{is_reserved};
 ghost use Rattle.def_names.specs.Standing.{count_of};
-ghost use Rattle.def_names.specs.Variables.{dummy_places, declared_places, is_integer};
+ghost use Rattle.std.specs.List.{list_any};
+ghost use Rattle.def_names.specs.Variables.{dummy_places, declared_places, first_places, is_integer};
 ghost use Rattle.def_names.specs.NameFaults.{has_rank, calls_runtime};
 ghost use Rattle.def_names.specs.Fault.{fault, faults_if, first_of, sooner};
 ghost use Rattle.adj_symbols_writes.specs.View.{seen};
@@ -71,6 +72,33 @@ pub(crate) fn add_undeclared(outline: &Outline<'_>, places: &[Placed<'_>], first
     }
 }
 
+// Whether a name at one of the places isn't declared and is no integer by its first letter.
+fn has_undeclared(outline: &Outline<'_>, places: &[Placed<'_>]) -> bool
+    ensures { result ≡ list_any (λ p. not (is_integer (procedure_of outline.now) p.1)) (places_of places.now) }
+{
+    for place in places {
+        if !outline.is_integer(place.name) {
+            return true;
+        }
+    }
+    false
+}
+
+/// The same where the first places of these names are known: all are looked at only where one of the first ones has a fault.
+pub(crate) fn add_undeclared_variables(
+    outline: &Outline<'_>,
+    variables: &[Placed<'_>],
+    places: &[Placed<'_>],
+    first: &mut First,
+)
+    requires { places_of variables.now ≡ first_places (places_of places.now) }
+    ensures { first.new ≡ sooner first.old (first_of (flat_map (λ p. faults_if (not (is_integer (procedure_of outline.now) p.1)) (fault 7 p.0)) (places_of places.now))) }
+{
+    if has_undeclared(outline, variables) {
+        add_undeclared(outline, places, first);
+    }
+}
+
 // Whether an intrinsic, a runtime call or a unit has the name.
 fn is_taken(scope: &Scope<'_>, name: &Name) -> bool
     ensures { result ≡ (is_reserved name.now || is_some (find_unit (map procedure_of scope.now) name.now)) }
@@ -78,12 +106,40 @@ fn is_taken(scope: &Scope<'_>, name: &Name) -> bool
     is_reserved(name) || scope.has(name)
 }
 
-/// Adds a fault at each name that an intrinsic, a runtime call or a unit has.
-pub(crate) fn add_reserved_variables(scope: &Scope<'_>, places: &[Placed<'_>], first: &mut First)
+// Whether the name at one of the places is such a name.
+fn has_taken(scope: &Scope<'_>, places: &[Placed<'_>]) -> bool
+    ensures { result ≡ list_any (λ p. is_reserved p.1 || is_some (find_unit (map procedure_of scope.now) p.1)) (places_of places.now) }
+{
+    for place in places {
+        if is_taken(scope, place.name) {
+            return true;
+        }
+    }
+    false
+}
+
+// Adds a fault at each such name.
+fn add_taken(scope: &Scope<'_>, places: &[Placed<'_>], first: &mut First)
     ensures { first.new ≡ sooner first.old (first_of (flat_map (λ p. faults_if (is_reserved p.1 || is_some (find_unit (map procedure_of scope.now) p.1)) (fault 18 p.0)) (places_of places.now))) }
 {
     for place in places {
         first.add_if(is_taken(scope, place.name), Code::ReservedName, place.line);
+    }
+}
+
+/// Adds a fault at each name that an intrinsic, a runtime call or a unit has, where the first places of these names are known: all are
+/// looked at only where one of the first ones has a fault.
+pub(crate) fn add_reserved_variables(
+    scope: &Scope<'_>,
+    variables: &[Placed<'_>],
+    places: &[Placed<'_>],
+    first: &mut First,
+)
+    requires { places_of variables.now ≡ first_places (places_of places.now) }
+    ensures { first.new ≡ sooner first.old (first_of (flat_map (λ p. faults_if (is_reserved p.1 || is_some (find_unit (map procedure_of scope.now) p.1)) (fault 18 p.0)) (places_of places.now))) }
+{
+    if has_taken(scope, variables) {
+        add_taken(scope, places, first);
     }
 }
 

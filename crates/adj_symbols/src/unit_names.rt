@@ -14,7 +14,7 @@ use crate::extents::{add_bad_extents, add_extent_places};
 use crate::first::First;
 use crate::name_faults::{
     add_declared, add_dummies, add_misused, add_reserved_variables, add_runtime_calls,
-    add_undeclared, add_used,
+    add_undeclared, add_undeclared_variables, add_used,
 };
 use crate::outline::Outline;
 use crate::places::{Placed, add_again};
@@ -83,13 +83,15 @@ fn names_of(alloc: Global, places: &[Placed<'_>]) -> Result<NameList, Memory>
 fn add_all_undeclared(
     alloc: Global,
     outline: &Outline<'_>,
+    variables: &[Placed<'_>],
     found: &[Placed<'_>],
     first: &mut First,
 ) -> Result<(), Memory>
-    requires { places_of found.now ≡ places (procedure_of outline.now) }
+    requires variables { places_of variables.now ≡ first_places (places_of found.now) }
+    requires found { places_of found.now ≡ places (procedure_of outline.now) }
     ensures { OnOk result (first.new ≡ sooner first.old (first_of (undeclared (procedure_of outline.now)))) }
 {
-    add_undeclared(outline, found, first);
+    add_undeclared_variables(outline, variables, found, first);
     let mut extents = Vec::new(alloc);
     add_extent_places(outline.unit().decls.as_slice(), &mut extents)?;
     add_undeclared(outline, extents.as_slice(), first);
@@ -166,11 +168,11 @@ fn add_unit_names(
     let chosen = first_places(alloc, places)?;
     let variables = chosen.as_slice();
     let unit = outline.unit();
-    add_all_undeclared(alloc, outline, places, first)?;
+    add_all_undeclared(alloc, outline, variables, places, first)?;
     add_declared_twice(alloc, unit, first)?;
     add_all_misused(alloc, rules, outline, first)?;
     add_bad_extents(outline, unit.decls.as_slice(), first);
-    add_reserved_variables(scope, places, first);
+    add_reserved_variables(scope, variables, places, first);
     add_runtime_calls(rules.takes_runtime, outline.statements(), first);
     add_too_many(rules.variables, variables, first);
     let names = names_of(alloc, variables)?;

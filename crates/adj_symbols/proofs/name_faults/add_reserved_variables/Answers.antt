@@ -1,16 +1,18 @@
-use Rattle.std.proofs.Common.{ap, ◌∙◌}
+use Rattle.std.proofs.Common.{ap, sym, ◌∙◌}
 use Rattle.std.specs.Prelude.{◌||◌, is_some, map}
-use Rattle.def_names.specs.Fault.{fault, faults_if, first_of, sooner}
-use Rattle.def_names.proofs.Order.{sooner_mapped}
 use Rattle.adj_tree.specs.View.{procedure_of}
 use Rattle.def_meaning.specs.Written.{find_unit}
 use Rattle.def_names.specs.Reserved.{is_reserved}
-use Rattle.adj_symbols.specs.View.{place_of}
+use Rattle.def_names.specs.Variables.{Name}
+use Rattle.std.specs.List.{list_any}
+use Rattle.def_names.specs.Fault.{first_of, sooner}
+use Rattle.def_names.proofs.Order.{sooner_none}
+use Rattle.adj_symbols.specs.View.{places_of}
+use Rattle.adj_symbols.proofs.FirstPlaces.{none_at_first}
 use Rattle.adj_symbols.proofs.name_faults.add_reserved_variables.Goals as goal
 
-pub loop-place-preserved : goal.loop-place-preserved
-loop-place-preserved c =
-    let p = c.place-item.result in
-    sooner_mapped place_of (λ q. faults_if (is_reserved q.1 || is_some (find_unit (map procedure_of c.args.scope.now) q.1)) (fault 18 q.0)) c.args.places.now c.loop-place.place-index p c.loop-place.first c.add_if.new.self c.loop-place-test.true c.place-item.is
-    (c.add_if.ensures.added ∙ ap (λ b. sooner c.loop-place.first (first_of (faults_if (b) (fault 18 p.line)))) c.is_taken.ensures)
-    ∙ c.loop-place.invariant
+pub returns-else-has_taken : goal.returns-else-has_taken
+returns-else-has_taken c =
+    let f = λ (x : Name). is_reserved x || is_some (find_unit (map procedure_of c.args.scope.now) x) in
+    let none = ap (list_any (λ p. f p.1)) (sym c.requires) ∙ sym c.has_taken.ensures ∙ c.if-has_taken.false in
+    sym (ap (λ rs. sooner c.args.first.now (first_of rs)) (none_at_first f 18 (places_of c.args.places.now) none) ∙ sooner_none c.args.first.now)

@@ -18,7 +18,7 @@ returns c =
     let extents = ap places_of c.as_slice-2.ensures.value ∙ c.in_ok-add_extent_places.ensures
     ∙ ap (λ xs. places_of xs ++ flat_map (λ d. map (λ x. (d.line, x)) (extent_names d.extents)) (map declaration_of c.as_slice.result.now)) c.new-extents.ensures.items
     ∙ ap (λ ds. flat_map (λ d. map (λ x. (d.line, x)) (extent_names d.extents)) (map declaration_of ds)) (c.as_slice.ensures.members ∙ ap (λ v. v.decls) c.unit.ensures.unit) in
-    sooner_then (f (places u)) (f (extent_places u)) c.args.first.now c.add_undeclared.new.first c.add_undeclared-2.new.first
-    (c.add_undeclared.ensures ∙ ap (λ ps. sooner c.args.first.now (first_of (f ps))) c.requires)
-    (c.add_undeclared-2.ensures ∙ ap (λ ps. sooner c.add_undeclared.new.first (first_of (f ps))) extents)
+    sooner_then (f (places u)) (f (extent_places u)) c.args.first.now c.add_undeclared_variables.new.first c.add_undeclared.new.first
+    (c.add_undeclared_variables.ensures ∙ ap (λ ps. sooner c.args.first.now (first_of (f ps))) c.requires.found)
+    (c.add_undeclared.ensures ∙ ap (λ ps. sooner c.add_undeclared_variables.new.first (first_of (f ps))) extents)
     ∙ ap (λ z. sooner c.args.first.now (first_of z)) (sym (flat_map-append (λ p. faults_if (not (is_integer u p.1)) (fault 7 p.0)) (places u) (extent_places u)))
