@@ -1,8 +1,8 @@
 -- A machine that does a call ends as the call does.
 use Rattle.std.proofs.Common.{◌≡◌, ℕ, zero, suc, ◌+◌, ◌*◌, ◌-◌, ◌<◌, ◌≤◌, Bool, true, false, List, [], ◌∷◌, length, get_or, refl, sym, ap, subst, ◌∙◌, arith, if◌then◌else◌}
-use Rattle.std.specs.Prelude.{map, slice_get, nat_lt, ◌==◌, ◌++◌, Result, Ok, Err, Option, Some, None}
-use Rattle.std.proofs.lemmas.List.{append_assoc, get_or_append_left, get_or_push, length-append}
-use Rattle.adj_tree.specs.Code.{Var, Terms, Code, name_eq, Procedure}
+use Rattle.std.specs.Prelude.{map, take, drop, slice_get, nat_lt, ◌==◌, ◌&&◌, ◌++◌, Result, Ok, Err, Option, Some, None}
+use Rattle.std.proofs.lemmas.List.{append_assoc, get_or_append_left, get_or_push, get_or-map, take_at, length-append, length-map}
+use Rattle.adj_tree.specs.Code.{Var, plain, Terms, Code, name_eq, Procedure}
 use Rattle.adj_tree.specs.View.{code_of, procedure_of}
 use Rattle.adj_tree.specs.declared.value.Trap.{Trap as CodeTrap}
 use Rattle.adj_tree.specs.declared.value.Trap.TheVariants as trap
@@ -14,7 +14,7 @@ use Rattle.def_meaning.specs.Numbers.{Numbers}
 use Rattle.def_meaning.specs.Value.{Setting}
 use Rattle.def_meaning.specs.Scene.{Scene, Stand, stand, Outcome, Done, Trapped, More, Full, then_do, with_value}
 use Rattle.def_meaning.specs.Run.{Calls, run}
-use Rattle.def_meaning.specs.Written.{find_unit, handed_back}
+use Rattle.def_meaning.specs.Written.{find_unit, writes, is_written, handed_back}
 use Rattle.def_meaning.specs.Units.{extents_of, shape_of, Actual, actuals, copied_out, dummies_fit, entered, unit_run, call_in, calls_of}
 use Rattle.adj_interp_frame.specs.declared.routine.Routine.{Routine}
 use Rattle.adj_interp_frame.specs.declared.step.Steps.{size-Steps}
@@ -22,7 +22,13 @@ use Rattle.adj_tape.specs.Held.{Held}
 use Rattle.adj_interp_frame.specs.Shown.{Shows}
 use Rattle.adj_interp_frame.specs.declared.slot.Slot.{Slot}
 use Rattle.adj_interp_frame.specs.declared.actual.Actual.{Actual as CodeActual}
-use Rattle.adj_interp_frame.specs.Called.{IsActualBelow, AreActualsBelow, entered_with, shapes_with, fit_from}
+use Rattle.adj_interp_frame.specs.Called.{actuals_in, is_written_at, IsActualBelow, AreActualsBelow, entered_with, shapes_with, fit_from}
+use Rattle.adj_interp_frame.specs.declared.actual.Actual.TheVariants as actual
+use Rattle.adj_interp_frame.specs.Prepared.{var_at}
+use Rattle.adj_interp_frame.specs.Lent.{AreFilled, AreRead}
+use Rattle.adj_interp_frame.proofs.Entering.{given_is, given_cells}
+use Rattle.law_meaning.proofs.Frames.{keeps_others}
+use Rattle.law_meaning.proofs.WriteSets.{handed_written}
 use Rattle.adj_interp_frame.specs.Instructed.{steps_in}
 use Rattle.adj_interp_frame.specs.declared.frame.Frame.{Frame}
 use Rattle.adj_interp_frame.specs.Framed.{trap_of, IsFrame}
@@ -86,6 +92,29 @@ pub entry_count : (level height : ℕ) (log : Log) (rs : List Reversal) → leng
 entry_count level height log [] = refl
 entry_count level height log (r ∷ rs) = refl
 
+-- ---- dummies that aren't written
+
+module _ (rs : List Routine) (number : ℕ) (name : List ℕ) (found : find_unit (units_in rs) name ≡ slice_get (units_in rs) number) (r : Routine) (lt : number < length rs) (at : r ≡ get_or rs number r) (k : IsRoutine (units_in rs) r) where
+  -- the unit is that of its name
+  own_name : find_unit (units_in rs) r.unit.now.name ≡ Some (procedure_of r.unit.now)
+  own_name =
+      let is = found ∙ unit_at rs number r lt ∙ ap (λ (z : Routine). Some (procedure_of z.unit.now)) (sym at) in
+      ap (find_unit (units_in rs)) (sym (found_name (units_in rs) name (procedure_of r.unit.now) is)) ∙ is
+
+  -- the statements of the unit write no dummy that isn't handed back
+  not_written : (i : ℕ) → i < length r.unit.now.dummies → is_written_at r i ≡ false → writes (handed_back (units_in rs)) (var_at r.names i) (procedure_of r.unit.now).body ≡ false
+  not_written i m h =
+      let us = units_in rs in
+      let u = procedure_of r.unit.now in
+      let flags = k.writes ∙ handed_written (units_in rs) r.unit.now.name (procedure_of r.unit.now) own_name in
+      let many = ap length flags ∙ length-map r.unit.now.dummies (is_written us u) in
+      let there : i < length r.writes.now = omega (arith, m, many) in
+      let first : nat_lt i (length r.unit.now.dummies) ≡ true = grind arith in
+      let second : nat_lt i (length r.writes.now) ≡ true = grind arith in
+      let flag = ap (λ ws. get_or ws i false) flags ∙ get_or-map (is_written us u) r.unit.now.dummies i [] false m in
+      ap (λ x. writes (handed_back us) x u.body) (ap (λ ns. var_at ns i) k.laid.names ∙ ap plain (get_or_append_left r.unit.now.dummies k.laid.others [] i m))
+      ∙ sym flag ∙ sym (λ z. first z && (second z && get_or r.writes.now i false)) ∙ h
+
 -- ---- within a call
 
 -- a misfit that is known of each scene is one of this scene
@@ -119,6 +148,22 @@ module _ {C : Type 0} where
         deeper depth some
         ∙ ap (λ u. call_in (calls_of (units_in rs) (depth - 1)) n (handed_back (units_in rs) name) u args line s) is
         ∙ ap (λ z. call_in (calls_of (units_in rs) (depth - 1)) n z (Some (procedure_of r.unit.now)) args line s) (ap (handed_back (units_in rs)) same ∙ sym w)
+
+  -- a list of slots that was filled in place
+  pub filled_whole : (vs : List (Slot C)) (all : List (CodeActual C)) (ws xs us : List (Slot C)) (n : ℕ) → xs ≡ ws → n ≡ length ws → AreFilled vs all xs us → AreFilled vs all ws (take n (us ++ drop (length us) ws))
+  filled_whole vs all ws xs us n v len f =
+      subst (λ z. AreFilled vs all z (take n (us ++ drop (length us) ws))) v
+      (subst (AreFilled vs all xs) (sym (take_at us (drop (length us) ws) n (f.count ∙ ap length v ∙ sym len))) f)
+
+  -- a dummy that isn't written holds at the end what its whole variable holds
+  pub unwritten_read : (rs : List Routine) (number : ℕ) (name : List ℕ) (found : find_unit (units_in rs) name ≡ slice_get (units_in rs) number) (r : Routine) (lt : number < length rs) (at : r ≡ get_or rs number r) (k : IsRoutine (units_in rs) r) (names : List (List ℕ)) (shape : Var → Shape) (t : Store C) (all : List (CodeActual C)) (depth : ℕ) (n : Setting C) (s s' : Scene C) (j j' : ℕ) → run (calls_of (units_in rs) depth) n (procedure_of r.unit.now).body s j ≡ Done s' j' → ((x : Var) (i : ℕ) → s.store x i ≡ entered_with n.numbers r (actuals_in names shape t all) x i) → AreRead r all names s'.store t
+  unwritten_read rs number name found r lt at k names shape t all depth n s s' j j' e start i v c unwritten given =
+      let m = (given_is (length r.unit.now.dummies) all i (actual.Whole v) given).0 in
+      let longer = length-append r.unit.now.dummies k.laid.others in
+      let many = ap length k.laid.names in
+      keeps_others (units_in rs) depth n (procedure_of r.unit.now).body s s' j j' e (var_at r.names i) (not_written rs number name found r lt at k i m unwritten) c
+      ∙ start (var_at r.names i) c
+      ∙ given_cells n.numbers r k.laid names shape t all i (omega (arith, m, longer, many)) (actual.Whole v) c given
 
   -- ---- before the unit runs
 
@@ -269,8 +314,8 @@ module _ {C : Type 0} {numbers : Numbers C} where
             some (suc i) o = grind arith
 
         -- it ends, and its dummies are handed back
-        pub call_done : (m3 : Machine C) → Ends within body_run m.left (Ok tt) m1 → (length m1.tally.begun == m1.base) ≡ true → m3.tape ≡ m1.tape → m3.tally ≡ m1.tally → m3.left ≡ m1.left → m3.level ≡ m.level → m3.base ≡ m.base
-            → ((t : Store C) → Shows numbers m1.frame.names.now m1.frame.slots.items within.shape t → Shows numbers m3.frame.names.now m3.frame.slots.items e.shape (copied_out r.unit.now.dummies ws got t s.store))
+        pub call_done : (m3 : Machine C) (d : Ends within body_run m.left (Ok tt) m1) → (length m1.tally.begun == m1.base) ≡ true → m3.tape ≡ m1.tape → m3.tally ≡ m1.tally → m3.left ≡ m1.left → m3.level ≡ m.level → m3.base ≡ m.base
+            → (Shows numbers m1.frame.names.now m1.frame.slots.items within.shape d.scene.store → Shows numbers m3.frame.names.now m3.frame.slots.items e.shape (copied_out r.unit.now.dummies ws got d.scene.store s.store))
             → Ends e (call_in q (setting_at e) ws (Some (procedure_of r.unit.now)) args line s) m.left (Ok tt) m3
         call_done m3 d c p t l v b shown =
             let o = d.holds.opened in
@@ -283,7 +328,7 @@ module _ {C : Type 0} {numbers : Numbers C} where
               room = ap (λ (z : Held C). z.room) p ∙ d.holds.room;
               level = v ∙ h.level;
               base = b ∙ h.base;
-              shown = shown d.scene.store d.holds.shown;
+              shown = shown d.holds.shown;
               tape = d.holds.tape ∙ ap (λ (z : Held C). z.words) (sym p);
               opened = omega (arith, was, same, base, b, count);
               told = subst (λ z. Tells z d.scene.events) (sym t) d.holds.told;

@@ -6,11 +6,14 @@ ghost use Rattle.def_meaning.specs.Event.{Enter};
 ghost use Rattle.def_meaning.specs.Scene.{Scene};
 ghost use Rattle.def_meaning.specs.Store.{Shape, Store};
 ghost use Rattle.def_meaning.specs.Units.{actual_of, actuals, copied_out};
+ghost use Rattle.adj_interp_frame.specs.declared.slot.Slot.{Slot};
+ghost use Rattle.adj_interp_frame.specs.declared.routine.Routine.{Routine as ARoutine};
 ghost use Rattle.adj_interp_frame.specs.Prepared.{term_in, terms_in, IsTermBelow, AreTermsBelow};
 ghost use Rattle.adj_interp_frame.specs.Framed.{IsFrame};
 ghost use Rattle.adj_interp_frame.specs.Shown.{on_numbers, Shows};
 ghost use Rattle.adj_interp_frame.specs.Suited.{counts_in, AreAsLarge};
 ghost use Rattle.adj_interp_frame.specs.Called.{actual_in, actuals_in, IsActualBelow, AreActualsBelow, IsLaidOut, entered_with, shapes_with, fit_from};
+ghost use Rattle.adj_interp_frame.specs.Lent.{AreLent, AreFilled, HaveLent, IsFrameFrom, ShowsHeld, AreRead, sizes_in, AreActualsWithin};
 ghost use Rattle.adj_interp.specs.declared.stop.Stop.TheVariants as stop;
 ghost use Rattle.adj_interp.specs.Held.{Entry, Holds};
 ghost use Rattle.adj_interp.specs.Entered.{Gets, IsMisfit, inside};
@@ -75,7 +78,7 @@ impl<'a, N: Number> Machine<'a, N> {
         }
     }
 
-    /// The entry of a unit that gets actuals.
+    /// The entry of a unit that gets actuals. A slot to which cells are lent has none yet.
     pub(crate) fn entry(
         &self,
         routine: &'a Routine<'a>,
@@ -86,11 +89,12 @@ impl<'a, N: Number> Machine<'a, N> {
         requires below { AreActualsBelow self.now.frame.slots.items actuals.now }
         requires laid { IsLaidOut routine.now }
         ensures names { IfOk result (λ f. f.names.now ≡ routine.now.names) }
-        ensures framed { IfOk result (λ f. IsFrame routine.now.names f.slots.items) }
+        ensures lent { IfOk result (λ f. AreLent routine.now actuals.now f.slots.items) }
+        ensures framed { IfOk result (λ f. (us : List (Slot N)) → AreFilled self.now.frame.slots.items actuals.now f.slots.items us → IsFrame routine.now.names us) }
         ensures fits { IfOk result (λ f. (shape : Var → Shape) (s : Store N) → Shows N.numbers self.now.frame.names.now self.now.frame.slots.items shape s
             → fit_from N.numbers routine.now (actuals_in self.now.frame.names.now shape s actuals.now) 0 ≡ true) }
-        ensures shown { IfOk result (λ f. (shape : Var → Shape) (s : Store N) → Shows N.numbers self.now.frame.names.now self.now.frame.slots.items shape s
-            → Shows N.numbers routine.now.names f.slots.items (shapes_with N.numbers routine.now (actuals_in self.now.frame.names.now shape s actuals.now)) (entered_with N.numbers routine.now (actuals_in self.now.frame.names.now shape s actuals.now))) }
+        ensures shown { IfOk result (λ f. (us : List (Slot N)) → AreFilled self.now.frame.slots.items actuals.now f.slots.items us → (shape : Var → Shape) (s : Store N) → Shows N.numbers self.now.frame.names.now self.now.frame.slots.items shape s
+            → Shows N.numbers routine.now.names us (shapes_with N.numbers routine.now (actuals_in self.now.frame.names.now shape s actuals.now)) (entered_with N.numbers routine.now (actuals_in self.now.frame.names.now shape s actuals.now))) }
         ensures misfit { IfErr result (λ x. IsMisfit x line ((shape : Var → Shape) (s : Store N) → Shows N.numbers self.now.frame.names.now self.now.frame.slots.items shape s
             → fit_from N.numbers routine.now (actuals_in self.now.frame.names.now shape s actuals.now) 0 ≡ false)) }
     {
@@ -104,15 +108,24 @@ impl<'a, N: Number> Machine<'a, N> {
         }
     }
 
-    /// Goes into a unit that is called; gives what the caller has in hand.
-    pub(crate) fn enter(&mut self, frame: Frame<'a, N>) -> Result<Outer<'a, N>, Stop>
+    /// Goes into a unit that is called, and lends it the cells that its entry is to have; gives what the caller has in hand.
+    pub(crate) fn enter(
+        &mut self,
+        mut frame: Frame<'a, N>,
+        actuals: &[Actual<N>],
+    ) -> Result<Outer<'a, N>, Stop>
+        requires framed { IsFrame self.old.frame.names.now self.old.frame.slots.items }
+        requires below { AreActualsBelow self.old.frame.slots.items actuals.now }
         ensures memory { IfErr result (λ x. x ≡ stop.Memory) }
         ensures kept { OnErr result (self.new.frame ≡ self.old.frame) }
-        ensures frame { OnOk result (self.new.frame ≡ frame.entry) }
+        ensures names { OnOk result (self.new.frame.names.now ≡ frame.entry.names.now) }
+        ensures filled { OnOk result ((r : ARoutine) → AreLent r actuals.now frame.entry.slots.items → AreFilled self.old.frame.slots.items actuals.now frame.entry.slots.items self.new.frame.slots.items) }
         ensures left { OnOk result (self.new.left ≡ self.old.left) }
-        ensures outer { IfOk result (λ o. o ≡ record { frame = self.old.frame; base = self.old.base; level = self.old.level; cursor = self.old.cursor }) }
+        ensures outer { IfOk result (λ o. o ≡ record { frame = o.frame; base = self.old.base; level = self.old.level; cursor = self.old.cursor }) }
+        ensures caller { IfOk result (λ o. o.frame.names.now ≡ self.old.frame.names.now) }
+        ensures lent { IfOk result (λ o. (r : ARoutine) → AreLent r actuals.now frame.entry.slots.items → HaveLent r actuals.now self.old.frame.slots.items o.frame.slots.items) }
         ensures room { self.new.tape.room ≡ self.old.tape.room }
-        ensures holds { OnOk result ((e : Entry N.numbers) (s : Scene N) (shape : Var → Shape) (t : Store N) (name : List ℕ) (shapes : List Shape) → Holds e self.old s → Shows N.numbers frame.entry.names.now frame.entry.slots.items shape t
+        ensures holds { OnOk result ((e : Entry N.numbers) (s : Scene N) (shape : Var → Shape) (t : Store N) (name : List ℕ) (shapes : List Shape) → Holds e self.old s → Shows N.numbers self.new.frame.names.now self.new.frame.slots.items shape t
             → Holds (inside e shape (length self.old.tally.begun)) self.new (record { store = t; tape = s.tape; opened = 0; events = Enter name (suc e.level) (length s.tape) shapes ∷ s.events })) }
     {
         let Some(level) = self.level.checked_add(1) else {
@@ -121,6 +134,7 @@ impl<'a, N: Number> Machine<'a, N> {
         let height = self.tape.len();
         self.tally.enter(level, height)?;
         let open = self.tally.open();
+        self.frame.lend(actuals, frame.slots.as_mut_slice());
         Ok(Outer {
             frame: mem::replace(&mut self.frame, frame),
             base: mem::replace(&mut self.base, open),
@@ -142,24 +156,25 @@ impl<'a, N: Number> Machine<'a, N> {
         (mem::replace(&mut self.frame, outer.frame), is_closed)
     }
 
-    /// Hands the dummies that are written back to their actuals. A whole variable has as many cells as its dummy.
+    /// Hands the dummies that are written back to their actuals, and lent cells to theirs. A whole variable has as many cells as its dummy.
     pub(crate) fn hand_back(
         &mut self,
         routine: &Routine<'a>,
         actuals: &[Actual<N>],
         mut inner: Frame<'a, N>,
     )
-        requires framed { IsFrame self.old.frame.names.now self.old.frame.slots.items }
-        requires below { AreActualsBelow self.old.frame.slots.items actuals.now }
+        requires framed { IsFrameFrom routine.now actuals.now 0 self.old.frame.names.now self.old.frame.slots.items }
+        requires below { AreActualsWithin self.old.frame.slots.items actuals.now }
         requires laid { IsLaidOut routine.now }
         requires inner { IsFrame routine.now.names inner.slots.items }
-        requires large { AreAsLarge (length routine.now.unit.now.dummies) (counts_in self.old.frame.slots.items) actuals.now (counts_in inner.slots.items) }
+        requires large { AreAsLarge (length routine.now.unit.now.dummies) (sizes_in self.old.frame.slots.items) actuals.now (counts_in inner.slots.items) }
         ensures names { self.new.frame.names.now ≡ self.old.frame.names.now }
         ensures framed { IsFrame self.old.frame.names.now self.new.frame.slots.items }
-        ensures counts { counts_in self.new.frame.slots.items ≡ counts_in self.old.frame.slots.items }
+        ensures counts { counts_in self.new.frame.slots.items ≡ sizes_in self.old.frame.slots.items }
         ensures left { self.new.left ≡ self.old.left }
         ensures same { self.new ≡ record self.old { frame = self.new.frame } }
-        ensures handed { (shape within : Var → Shape) (s s0 t : Store N) → Shows N.numbers self.old.frame.names.now self.old.frame.slots.items shape s → Shows N.numbers routine.now.names inner.entry.slots.items within t
+        ensures handed { (shape within : Var → Shape) (s s0 t : Store N) → ShowsHeld N.numbers self.old.frame.names.now self.old.frame.slots.items shape s → Shows N.numbers routine.now.names inner.entry.slots.items within t
+            → AreRead routine.now actuals.now self.old.frame.names.now t s
             → Shows N.numbers self.old.frame.names.now self.new.frame.slots.items shape (copied_out routine.now.unit.now.dummies routine.now.writes.now (actuals_in self.old.frame.names.now shape s0 actuals.now) t s) }
     {
         self.frame

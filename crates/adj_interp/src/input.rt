@@ -55,13 +55,17 @@ pub(crate) fn first_entry<'a, N: Number>(
     ensures shown { IfOk result (λ f. let u = procedure_of routine.now.unit.now in let store = input_store N.numbers u (map entry_seen input.items) in
         Shows N.numbers routine.now.names f.slots.items (input_shape N.numbers u store) store) }
 {
-    let caller = outside(routine.unit, input);
+    let mut caller = outside(routine.unit, input);
     let actuals = wholes(alloc, caller.slots.len())?;
-    match caller.entry(alloc, routine, actuals.as_slice()) {
-        Ok(slots) => Ok(Frame {
-            names: &routine.names,
-            slots,
-        }),
+    let given = actuals.as_slice();
+    match caller.entry(alloc, routine, given) {
+        Ok(mut slots) => {
+            caller.lend(given, slots.as_mut_slice());
+            Ok(Frame {
+                names: &routine.names,
+                slots,
+            })
+        }
         Err(Unfit::Shape) => unreachable!(),
         Err(Unfit::Memory) => Err(Memory),
     }

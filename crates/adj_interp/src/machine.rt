@@ -1,4 +1,4 @@
-//! The machine that executes prepared statements.
+//! The machine that executes prepared statements. What is long stays out of `run` (`inline(never)`), whose own work for a statement is then short.
 
 ghost use Rattle.std.specs.Prelude.{◌≡◌, ◌<◌, List, ℕ, Some, suc, true, false, length, slice_get, slice_index_or, IfOk};
 ghost use Rattle.adj_tree.specs.Code.{Procedure};
@@ -88,6 +88,7 @@ impl<'a, N: Number> Machine<'a, N> {
     }
 
     // First value, step and number of turns of a DO, which are words.
+    #[inline(never)]
     fn bounds(&self, bounds: &Bounds, marking: &Marking, line: u32) -> Result<(i64, i64, u64), Stop>
         requires framed { IsFrame self.now.frame.names.now self.now.frame.slots.items }
         requires below { AreBoundsBelow (length self.now.frame.names.now) bounds.now }
@@ -234,6 +235,7 @@ impl<'a, N: Number> Machine<'a, N> {
     }
 
     // Does a call of the unit of a number, where calls may go so deep.
+    #[inline(never)]
     #[cycle(run)]
     fn call(
         &mut self,
@@ -262,15 +264,16 @@ impl<'a, N: Number> Machine<'a, N> {
         }
         let routine = &program[number];
         let actuals = self.actuals(routine, terms, line)?;
-        let frame = self.entry(routine, actuals.as_slice(), line)?;
-        let outer = self.enter(frame)?;
+        let given = actuals.as_slice();
+        let frame = self.entry(routine, given, line)?;
+        let outer = self.enter(frame, given)?;
         let ended = self.run(program, depth - 1, &routine.body);
         let (inner, is_closed) = self.leave(outer);
+        self.hand_back(routine, given, inner);
         ended?;
         if !is_closed {
             return Err(Stop::Trap(Trap::Schedule, line));
         }
-        self.hand_back(routine, actuals.as_slice(), inner);
         Ok(())
     }
 
@@ -309,6 +312,7 @@ impl<'a, N: Number> Machine<'a, N> {
     }
 
     // Makes the turns of a DO WHILE, whose first test was counted.
+    #[inline(never)]
     #[cycle(run)]
     fn tests(
         &mut self,

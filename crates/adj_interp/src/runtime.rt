@@ -147,6 +147,7 @@ impl<'a, N: Number> Machine<'a, N> {
     }
 
     /// Does a call of the runtime, which was counted.
+    #[inline(never)]
     pub(crate) fn serve(&mut self, service: &Service, line: u32) -> Result<(), Stop>
         requires framed { IsFrame self.old.frame.names.now self.old.frame.slots.items }
         requires below { IsServiceBelow (length self.old.frame.names.now) service.now }

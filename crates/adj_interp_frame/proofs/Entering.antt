@@ -72,7 +72,7 @@ module _ {C : Type 0} where
       go rest false e = rest e
 
   -- where one is given, it stands in the list
-  given_is : (count : ℕ) (all : List (CodeActual C)) (i : ℕ) (a : CodeActual C) → given_at count all i ≡ Some a → (i < count) × ((i < length all) × (get_or all i a ≡ a))
+  pub given_is : (count : ℕ) (all : List (CodeActual C)) (i : ℕ) (a : CodeActual C) → given_at count all i ≡ Some a → (i < count) × ((i < length all) × (get_or all i a ≡ a))
   given_is count all i a h = go (nat_lt i count) refl h
     where
       go : (b : Bool) → nat_lt i count ≡ b → (let o : Option (CodeActual C) = if b then slice_get all i else None in o ≡ Some a) → (i < count) × ((i < length all) × (get_or all i a ≡ a))

@@ -7,6 +7,7 @@ pub mod Resolving
 pub mod Giving
 pub mod Entering
 pub mod Suiting
+pub mod Borrowing
 pub mod Returning
 pub mod Listing
 pub mod Declarations

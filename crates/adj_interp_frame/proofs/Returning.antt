@@ -12,7 +12,7 @@ use Rattle.adj_interp_frame.specs.declared.actual.Actual.{Actual as CodeActual}
 use Rattle.adj_interp_frame.specs.declared.actual.Actual.TheVariants as actual
 use Rattle.adj_interp_frame.specs.declared.routine.Routine.{Routine}
 use Rattle.adj_interp_frame.specs.Prepared.{var_at}
-use Rattle.adj_interp_frame.specs.Shown.{Shows}
+use Rattle.adj_interp_frame.specs.Lent.{IsFirst, ShowsHeld}
 use Rattle.adj_interp_frame.specs.Called.{actual_in, place_of, is_written_at, handed, IsLaidOut}
 
 -- a dummy that is written is one of the variables
@@ -77,8 +77,21 @@ module _ {C : Type 0} where
     out_end i s n = ap (λ as'. copied_out (drop i r.unit.now.dummies) (drop i r.writes.now) as' t s) (drop_all i got n) ∙ no_actuals (drop i r.unit.now.dummies) (drop i r.writes.now) t s
 
 module _ {C : Type 0} (numbers : Numbers C) where
-  -- the slots show a store from which the rest gives the whole
-  pub record Comes (names : List (List ℕ)) (vs : List (Slot C)) (shape : Var → Shape) (whole : Store C) (rest : Store C → Store C) : Type 0 where
+  -- the slots that have cells show a store from which the rest gives the whole, and which is as it was where no actual so far is
+  pub record Comes (all : List (CodeActual C)) (i : ℕ) (names : List (List ℕ)) (vs : List (Slot C)) (shape : Var → Shape) (s whole : Store C) (rest : Store C → Store C) : Type 0 where
     pub store : Store C
-    pub shown : Shows numbers names vs shape store
+    pub shown : ShowsHeld numbers names vs shape store
     pub same : whole ≡ rest store
+    pub untouched : (k j : ℕ) → k < length names → IsFirst all i k → store (var_at names k) j ≡ s (var_at names k) j
+
+-- a dummy that is written is one
+pub written_dummy : (r : Routine) (i : ℕ) → is_written_at r i ≡ true → i < length r.unit.now.dummies
+written_dummy r i h =
+    let p = and_true (nat_lt i (length r.unit.now.dummies)) (nat_lt i (length r.writes.now) && get_or r.writes.now i false) h in
+    grind (arith, p.0)
+
+-- a dummy is one of the variables
+pub dummy_there : (r : Routine) → IsLaidOut r → (i : ℕ) → i < length r.unit.now.dummies → i < length r.names
+dummy_there r l i m =
+    let n = length-append r.unit.now.dummies l.others in
+    subst (λ ns. i < length ns) (sym l.names) (omega (arith, m, n))

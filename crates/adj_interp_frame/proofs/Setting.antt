@@ -75,7 +75,7 @@ module _ {C : Type 0} where
 
 module _ {C : Type 0} (numbers : Numbers C) where
   -- a cell of a list with another number in one
-  cell_now : (cs : List C) (k j : ℕ) (w : C) → k < length cs → get_or (set cs k w) j (zero_in numbers) ≡ (if j == k then w else get_or cs j (zero_in numbers))
+  pub cell_now : (cs : List C) (k j : ℕ) (w : C) → k < length cs → get_or (set cs k w) j (zero_in numbers) ≡ (if j == k then w else get_or cs j (zero_in numbers))
   cell_now cs k j w lt = go (j == k) refl
     where
       go : (b : Bool) → (j == k) ≡ b → get_or (set cs k w) j (zero_in numbers) ≡ (if b then w else get_or cs j (zero_in numbers))

@@ -9,3 +9,4 @@ pub mod Suited
 pub mod Linked
 pub mod Listed
 pub mod Declaring
+pub mod Lent

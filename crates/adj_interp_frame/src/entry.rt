@@ -1,19 +1,22 @@
 //! The entry of a unit that is called: its slots.
 
-ghost use Rattle.std.specs.Prelude.{◌≡◌, ◌<◌, ◌+◌, ℕ, IfOk, length, slice_index_or, true, false};
+ghost use Rattle.std.specs.Prelude.{◌≡◌, ◌<◌, ◌+◌, ℕ, List, [], IfOk, length, slice_index_or, true, false};
 ghost use Rattle.adj_tree.specs.Code.{Var};
 ghost use Rattle.adj_tree.specs.View.{procedure_of};
 ghost use Rattle.def_meaning.specs.Store.{Shape, size_of, Store};
 ghost use Rattle.def_meaning.specs.Units.{extent_in, extents_of, shape_of};
 ghost use Rattle.adj_interp_frame.specs.declared.entry.Unfit.TheVariants as unfit;
+ghost use Rattle.adj_interp_frame.specs.declared.slot.Slot.{Slot as ASlot};
 ghost use Rattle.adj_interp_frame.specs.Prepared.{var_at};
 ghost use Rattle.adj_interp_frame.specs.Framed.{IsSlot, IsFrame, slot_shape, zero_in};
 ghost use Rattle.adj_interp_frame.specs.Shown.{Shows};
 ghost use Rattle.adj_interp_frame.specs.Called.{actual_in, actuals_in, given_at, IsActualBelow, AreActualsBelow, extent_at, IsBoundBelow, words_in, IsLaidOut, entered_with, shapes_with, IsEntered, is_fit, fit_from};
+ghost use Rattle.adj_interp_frame.specs.Lent.{HasLender, AreLent, IsFilled, AreFilled};
 
 use crate::actual::Actual;
 use crate::frame::Frame;
 use crate::layout::{Area, Bound, Layout};
+use crate::lending::lender;
 use crate::routine::Routine;
 use crate::slot::Slot;
 use adj_number::Number;
@@ -143,7 +146,7 @@ impl<'a, N: Number> Frame<'a, N> {
         Ok(self.slots[i].copy(alloc)?)
     }
 
-    // The slot of a variable at the entry.
+    // The slot of a variable at the entry, before it gets the cells that are lent to it.
     fn entry_slot(
         &self,
         alloc: Global,
@@ -155,15 +158,20 @@ impl<'a, N: Number> Frame<'a, N> {
         requires below { AreActualsBelow self.now.slots.items actuals.now }
         requires laid { IsLaidOut routine.now }
         requires there { i < length routine.now.names }
-        ensures sized { IfOk result (λ v. IsSlot v) }
-        ensures entered { IfOk result (λ v. (shape : Var → Shape) (s : Store N) → Shows N.numbers self.now.names.now self.now.slots.items shape s
-            → IsEntered N.numbers routine.now (actuals_in self.now.names.now shape s actuals.now) i v) }
+        ensures lent { IfOk result (λ v. v.cells.items ≡ [] → HasLender routine.now actuals.now i) }
+        ensures sized { IfOk result (λ v. (u : ASlot N) → IsFilled self.now.slots.items actuals.now i v u → IsSlot u) }
+        ensures entered { IfOk result (λ v. (u : ASlot N) → IsFilled self.now.slots.items actuals.now i v u → (shape : Var → Shape) (s : Store N) → Shows N.numbers self.now.names.now self.now.slots.items shape s
+            → IsEntered N.numbers routine.now (actuals_in self.now.names.now shape s actuals.now) i u) }
         ensures fits { IfOk result (λ v. (shape : Var → Shape) (s : Store N) → Shows N.numbers self.now.names.now self.now.slots.items shape s
             → fit_from N.numbers routine.now (actuals_in self.now.names.now shape s actuals.now) i ≡ fit_from N.numbers routine.now (actuals_in self.now.names.now shape s actuals.now) (i + 1)) }
         ensures unfit { result ≡ Err unfit.Shape → (shape : Var → Shape) (s : Store N) → Shows N.numbers self.now.names.now self.now.slots.items shape s
             → fit_from N.numbers routine.now (actuals_in self.now.names.now shape s actuals.now) i ≡ false }
     {
         let area = self.area(routine, actuals, i);
+        if let Some(variable) = lender(routine, actuals, i, area) {
+            let borrowed = self.borrower(alloc, variable, area)?;
+            return Ok(borrowed);
+        }
         match given(routine, actuals, i) {
             Some(actual) => {
                 let slot = self.dummy(alloc, actual, area)?;
@@ -173,7 +181,7 @@ impl<'a, N: Number> Frame<'a, N> {
         }
     }
 
-    /// The slots at the entry of a unit that gets actuals: each dummy array must fit its actual.
+    /// The slots at the entry of a unit that gets actuals: each dummy array must fit its actual. A slot to which cells are lent has none yet.
     pub fn entry(
         &self,
         alloc: Global,
@@ -183,9 +191,10 @@ impl<'a, N: Number> Frame<'a, N> {
         requires framed { IsFrame self.now.names.now self.now.slots.items }
         requires below { AreActualsBelow self.now.slots.items actuals.now }
         requires laid { IsLaidOut routine.now }
-        ensures framed { IfOk result (λ v. IsFrame routine.now.names v.items) }
-        ensures shown { IfOk result (λ v. (shape : Var → Shape) (s : Store N) → Shows N.numbers self.now.names.now self.now.slots.items shape s
-            → Shows N.numbers routine.now.names v.items (shapes_with N.numbers routine.now (actuals_in self.now.names.now shape s actuals.now)) (entered_with N.numbers routine.now (actuals_in self.now.names.now shape s actuals.now))) }
+        ensures lent { IfOk result (λ v. AreLent routine.now actuals.now v.items) }
+        ensures framed { IfOk result (λ v. (us : List (ASlot N)) → AreFilled self.now.slots.items actuals.now v.items us → IsFrame routine.now.names us) }
+        ensures shown { IfOk result (λ v. (us : List (ASlot N)) → AreFilled self.now.slots.items actuals.now v.items us → (shape : Var → Shape) (s : Store N) → Shows N.numbers self.now.names.now self.now.slots.items shape s
+            → Shows N.numbers routine.now.names us (shapes_with N.numbers routine.now (actuals_in self.now.names.now shape s actuals.now)) (entered_with N.numbers routine.now (actuals_in self.now.names.now shape s actuals.now))) }
         ensures fits { IfOk result (λ v. (shape : Var → Shape) (s : Store N) → Shows N.numbers self.now.names.now self.now.slots.items shape s
             → fit_from N.numbers routine.now (actuals_in self.now.names.now shape s actuals.now) 0 ≡ true) }
         ensures unfit { result ≡ Err unfit.Shape → (shape : Var → Shape) (s : Store N) → Shows N.numbers self.now.names.now self.now.slots.items shape s

@@ -40,19 +40,39 @@ impl<'a, N: Number> Frame<'a, N> {
                 let cell = self.cell(*i, subs)?;
                 Ok(self.slots[*i].cells[cell])
             }
-            Term::Neg(a) => Ok(self.value(a)?.negation()),
+            Term::Neg(a) => Ok(self.operand(a)?.negation()),
             Term::Bin(op, a, b) => {
-                let left = self.value(a)?;
-                let right = self.value(b)?;
+                let left = self.operand(a)?;
+                let right = self.operand(b)?;
                 operation(*op, left, right)
             }
-            Term::Pow(a, power) => Ok(self.value(a)?.power(*power)),
+            Term::Pow(a, power) => Ok(self.operand(a)?.power(*power)),
             Term::Power(a, b) => {
-                let base = self.value(a)?;
-                let power = exponent(self.value(b)?.word())?;
+                let base = self.operand(a)?;
+                let power = exponent(self.operand(b)?.word())?;
                 Ok(base.power(power))
             }
-            Term::Abs(a) => Ok(absolute(self.value(a)?)),
+            Term::Abs(a) => Ok(absolute(self.operand(a)?)),
+        }
+    }
+
+    // The value of an operand or a subscript. Most are words and scalars, which are read in place: the compiler puts this
+    // function into those that call it, and no call is made for them.
+    #[inline(always)]
+    #[cycle(value)]
+    fn operand(&self, term: &Term) -> Result<N, Trap>
+        requires framed { IsFrame self.now.names.now self.now.slots.items }
+        requires below { IsTermBelow (length self.now.slots.items) term.now }
+        ensures value { let n = setting_in_slots N.numbers self.now.names.now self.now.slots.items in
+            result_of result ≡ value n (term_in self.now.names.now term.now) (store_in N.numbers self.now.names.now self.now.slots.items) }
+    {
+        match term {
+            Term::Lit(word) => Ok(N::of_word(*word)),
+            Term::Var(i) => Ok(self.slots[*i].first()),
+            _ => match self.value(term) {
+                Ok(number) => Ok(number),
+                Err(trap) => Err(trap),
+            },
         }
     }
 
@@ -68,7 +88,7 @@ impl<'a, N: Number> Frame<'a, N> {
         match subs {
             Terms::Empty => Err(Trap::Index),
             Terms::More(first, rest) => {
-                let row = self.value(first)?.word();
+                let row = self.operand(first)?.word();
                 self.cell_behind(i, row, rest)
             }
         }
@@ -86,7 +106,7 @@ impl<'a, N: Number> Frame<'a, N> {
         match rest {
             Terms::Empty => self.slots[i].in_list(row),
             Terms::More(second, others) => {
-                let column = self.value(second)?.word();
+                let column = self.operand(second)?.word();
                 match &**others {
                     Terms::Empty => self.slots[i].in_table(row, column),
                     Terms::More(_, _) => {
@@ -123,8 +143,8 @@ impl<'a, N: Number> Frame<'a, N> {
     {
         match test {
             Test::Cmp(rel, a, b) => {
-                let left = self.value(a)?;
-                let right = self.value(b)?;
+                let left = self.operand(a)?;
+                let right = self.operand(b)?;
                 Ok(compares(*rel, left.word(), right.word()))
             }
             Test::Not(c) => Ok(!self.holds(c)?),

@@ -16,6 +16,7 @@ mod frame;
 mod handing;
 mod laws;
 mod layout;
+mod lending;
 mod numbering;
 mod preparation;
 mod prepare;

@@ -1,6 +1,6 @@
 //! What a variable holds.
 
-ghost use Rattle.std.specs.Prelude.{◌≡◌, ◌<◌, ◌∷◌, [], length, replicate, slice_index_or, IfOk};
+ghost use Rattle.std.specs.Prelude.{◌≡◌, ◌<◌, ◌∷◌, [], true, false, length, replicate, set, slice_index_or, IfOk};
 ghost use Rattle.def_meaning.specs.Trap.{index, or_trap};
 ghost use Rattle.def_meaning.specs.Store.{within, cell_of};
 ghost use Rattle.adj_interp_frame.specs.Framed.{result_of, slot_shape, IsSlot, zero_in};
@@ -35,6 +35,14 @@ impl<N: Number> Slot<N> {
         ensures { result ≡ slice_index_or self.now.cells.items 0 (zero_in N.numbers) }
     {
         self.cells[0]
+    }
+
+    /// Whether it has no cells: it lent them, or they are lent to it.
+    pub(crate) fn is_empty(&self) -> bool
+        ensures empty { result ≡ true → self.now.cells.items ≡ [] }
+        ensures some { result ≡ false → self.now.cells.items ≡ [] → ⊥ }
+    {
+        self.cells.is_empty()
     }
 
     /// The cell of one subscript.
@@ -72,8 +80,21 @@ impl<N: Number> Slot<N> {
     pub(crate) fn take(&mut self, other: &mut Slot<N>)
         ensures shape { slot_shape self.new ≡ slot_shape self.old }
         ensures cells { self.new.cells.items ≡ other.old.cells.items }
+        ensures other { slot_shape other.new ≡ slot_shape other.old }
+        ensures given { other.new.cells.items ≡ self.old.cells.items }
     {
         mem::swap(&mut self.cells, &mut other.cells);
+    }
+
+    /// Puts a number into a cell, where the slot has it.
+    pub(crate) fn put(&mut self, cell: usize, number: N)
+        ensures shape { slot_shape self.new ≡ slot_shape self.old }
+        ensures count { length self.new.cells.items ≡ length self.old.cells.items }
+        ensures cells { cell < length self.old.cells.items → self.new.cells.items ≡ set self.old.cells.items cell number }
+    {
+        if cell < self.cells.len() {
+            self.cells[cell] = number;
+        }
     }
 
     /// Puts 0 into each cell.

@@ -1,4 +1,4 @@
-use Rattle.std.proofs.Common.{rules, ◌≡◌, ◌*◌, ◌-◌, ◌<◌, ℕ, suc, ℤ, List, FitsSigned, w64, length, refl, sym, ap, subst, ◌∙◌, arith, Vec, Global}
+use Rattle.std.proofs.Common.{rules, ◌≡◌, ◌+◌, ◌*◌, ◌-◌, ◌<◌, ℕ, suc, ℤ, List, FitsSigned, w64, length, refl, sym, ap, subst, ◌∙◌, arith, Vec, Global}
 use Rattle.std.specs.Prelude.{Result, Ok, Err, Some, None, Bool, true, false, if◌then◌else◌}
 use Rattle.def_meaning.specs.Trap.{Trap, shape_trap}
 use Rattle.std.proofs.lemmas.Int.{to_z-of_z}
@@ -22,11 +22,13 @@ use Rattle.adj_interp_frame.specs.declared.frame.Frame.{Frame}
 use Rattle.adj_interp_frame.specs.declared.routine.Routine.{Routine}
 use Rattle.adj_interp_frame.specs.Linked.{IsRoutine, units_in}
 use Rattle.adj_interp_frame.specs.Shown.{on_numbers, Shows}
-use Rattle.adj_interp_frame.specs.Called.{actuals_in, entered_with, shapes_with, fit_from}
+use Rattle.adj_interp_frame.specs.Called.{actuals_in, AreActualsBelow, entered_with, shapes_with, fit_from}
+use Rattle.adj_interp_frame.specs.Lent.{IsFrameFrom, ShowsHeld, AreRead, AreActualsWithin, sizes_in}
+use Rattle.adj_interp_frame.proofs.Borrowing.{lent_frame, lent_within, lent_sizes, lent_shows}
 use Rattle.adj_interp.specs.declared.call.Outer.{Outer}
 use Rattle.adj_interp.specs.Entered.{inside}
 use Rattle.adj_tree.specs.View.{procedure_of}
-use Rattle.adj_interp.proofs.Calling.{all_sizes, unit_at, size_within, less_deep, positive, call_past, call_at, call_err, misfit_at, call_misfit, unit_ends, call_break, call_open, call_done, entered_suited}
+use Rattle.adj_interp.proofs.Calling.{all_sizes, unit_at, unwritten_read, size_within, less_deep, positive, call_past, call_at, call_err, misfit_at, call_misfit, unit_ends, call_break, call_open, call_done, entered_suited}
 use Rattle.adj_interp_frame.specs.Framed.{IsFrame, shapes_in, store_in}
 use Rattle.adj_interp_frame.specs.Suited.{AreSuited, counts_in, HasOneCell, AreAsLarge}
 use Rattle.adj_interp_frame.proofs.Showing.{shows_itself}
@@ -493,7 +495,7 @@ call-returns-in_err-frame-clause-ends g t c name found e s h =
     let err : c.from_residual-in_err-frame.result ≡ Err c.in_err-frame.field-0.0 = search rules in
     let o = calls_of {C = g.row.N.Denot} (units_in rs) c.args.depth (setting_at e) name args c.args.line s in
     let got = actuals_in names e.shape s.store c.in_ok-actuals.actuals.items in
-    let misfit = misfit_at x c.args.line (λ f. ap (λ all. fit_from g.N.Number.numbers r (actuals_in names e.shape s.store all) 0) (sym c.as_slice.ensures.value) ∙ f e.shape s.store h.shown) c.in_err-frame.ensures.misfit in
+    let misfit = misfit_at x c.args.line (λ f. ap (λ all. fit_from g.N.Number.numbers r (actuals_in names e.shape s.store all) 0) (sym c.as_slice-given.ensures.value) ∙ f e.shape s.store h.shown) c.in_err-frame.ensures.misfit in
     subst (λ z. Ends e o m.left z m) (sym err)
     (subst (λ z. Ends e z m.left (Err x) m) (sym at) (call_misfit (calls_of {C = g.row.N.Denot} (units_in rs) (c.args.depth - 1)) e s r r.writes.now args c.args.line m h got (c.in_ok-actuals.ensures.actuals e.shape (Some e.room) e.level s.store h.shown) x misfit))
 
@@ -503,21 +505,48 @@ call-run-ended-requires g t c κs alive =
     let r = c.index-program-number.result in
     let lt = c.if-number-program.false in
     let k = subst (IsRoutine (units_in rs)) (sym c.index-program-number.is) (c.requires.program c.args.number r lt) in
-    let frame = c.in_ok-outer.ensures.frame in
     let f = c.in_ok-frame.ensures in
-    let names = ap (λ (z : Frame _). z.names.now) frame ∙ f.names in
-    let framed = subst (λ (z : Frame _). IsFrame r.names z.slots.items) (sym frame) f.framed in
+    let o = c.in_ok-outer.ensures in
+    let us = c.enter.new.self.frame.slots.items in
+    let filled = o.filled r f.lent in
+    let names = o.names ∙ f.names in
+    let framed = f.framed us filled in
     let size = ap (λ (z : Routine). size-Steps z.body) c.index-program-number.is in
     let within = size_within rs c.args.number r lt in
     let less = less_deep c.args.depth (suc (2 * all_sizes rs)) (2 * size-Steps r.body) 0 (positive c.args.depth c.if-depth-eq0.false) (omega (arith, size, within)) in
     let m = c.args.self.now.frame in
     let mine = shapes_in m.names.now m.slots.items in
     let held = store_in g.N.Number.numbers m.names.now m.slots.items in
-    let got = actuals_in m.names.now mine held c.as_slice.result.now in
-    let shown = f.shown mine held (shows_itself g.N.Number.numbers m.names.now m.slots.items) in
-    let inside_suited = entered_suited (units_in rs) r (entered_with g.N.Number.numbers r got) (shapes_with g.N.Number.numbers r got) (entered_with g.N.Number.numbers r got) c.in_ok-frame.frame k f.names f.framed shown (λ x. refl) in
-    let suited = subst (λ (z : Frame _). AreSuited (units_in rs) (HasOneCell z.names.now (counts_in z.slots.items)) (steps_in z.names.now r.body)) (sym frame) inside_suited in
-    (omega (arith, c.decreases, less), (alive, (subst (λ ns. IsFrame ns c.enter.new.self.frame.slots.items) (sym names) framed, (subst (λ ns. AreStepsBelow (length ns) r.body) (sym names) k.below, (c.requires.program, (k.linked, suited))))))
+    let got = actuals_in m.names.now mine held c.as_slice-given.result.now in
+    let shown = f.shown us filled mine held (shows_itself g.N.Number.numbers m.names.now m.slots.items) in
+    let suited = entered_suited (units_in rs) r (entered_with g.N.Number.numbers r got) (shapes_with g.N.Number.numbers r got) (entered_with g.N.Number.numbers r got) c.enter.new.self.frame k names framed shown (λ x. refl) in
+    (omega (arith, c.decreases, less), (alive, (subst (λ ns. IsFrame ns us) (sym names) framed, (subst (λ ns. AreStepsBelow (length ns) r.body) (sym names) k.below, (c.requires.program, (k.linked, suited))))))
+
+-- ---- what is handed back
+
+-- the caller's slots have lent their cells
+pub call-hand_back-requires-clause-framed : goal.call-hand_back-requires-clause-framed
+call-hand_back-requires-clause-framed g t c =
+    let r = c.index-program-number.result in
+    let m = c.args.self.now.frame in
+    let o = c.in_ok-outer.ensures in
+    let all = c.as_slice-given.result.now in
+    let outer = c.in_ok-outer.outer.frame in
+    let frame = ap (λ (z : Machine _). z.frame) c.leave-inner.ensures.back in
+    let lent = o.lent r c.in_ok-frame.ensures.lent in
+    subst (λ (z : Frame _). IsFrameFrom r all 0 z.names.now z.slots.items) (sym frame)
+    (subst (λ ns. IsFrameFrom r all 0 ns outer.slots.items) (sym o.caller) (lent_frame r all m.names.now m.slots.items outer.slots.items c.requires.framed lent))
+
+pub call-hand_back-requires-clause-below : goal.call-hand_back-requires-clause-below
+call-hand_back-requires-clause-below g t c =
+    let r = c.index-program-number.result in
+    let m = c.args.self.now.frame in
+    let all = c.as_slice-given.result.now in
+    let outer = c.in_ok-outer.outer.frame in
+    let frame = ap (λ (z : Machine _). z.frame) c.leave-inner.ensures.back in
+    let lent = c.in_ok-outer.ensures.lent r c.in_ok-frame.ensures.lent in
+    let below = subst (AreActualsBelow m.slots.items) (sym c.as_slice-given.ensures.value) c.in_ok-actuals.ensures.below in
+    subst (λ (z : Frame _). AreActualsWithin z.slots.items all) (sym frame) (lent_within r all m.names.now m.slots.items outer.slots.items c.requires.framed lent below)
 
 -- what is handed back has the cells of the actuals
 pub call-hand_back-requires-clause-large : goal.call-hand_back-requires-clause-large
@@ -532,17 +561,20 @@ call-hand_back-requires-clause-large g t c =
     let f = c.in_ok-frame.ensures in
     let itself = shows_itself g.N.Number.numbers m.names.now m.slots.items in
     let found = c.in_ok-actuals.ensures.actuals mine None 0 held itself in
-    let value = c.as_slice.ensures.value in
-    let all = c.in_ok-actuals.actuals.items in
+    let value = c.as_slice-given.ensures.value in
+    let all = c.as_slice-given.result.now in
+    let us = c.enter.new.self.frame.slots.items in
+    let filled = c.in_ok-outer.ensures.filled r f.lent in
     let got = actuals_in m.names.now mine held all in
     let is = unit_at rs c.args.number r lt ∙ ap (λ (z : Routine). Some (procedure_of z.unit.now)) (sym c.index-program-number.is) in
-    let suited = got_suited (HasOneCell m.names.now (counts_in m.slots.items)) (on_numbers g.N.Number.numbers mine None 0) held (procedure_of r.unit.now) r.unit.now.dummies (terms_in m.names.now c.args.terms.now) got found (c.requires.suited (procedure_of r.unit.now) is) in
-    let fit = subst (λ (xs : List (Actual _)). fit_from g.N.Number.numbers r (actuals_in m.names.now mine held xs) 0 ≡ true) value (f.fits mine held itself) in
-    let shown = subst (λ (xs : List (Actual _)). Shows g.N.Number.numbers r.names c.in_ok-frame.frame.slots.items (shapes_with g.N.Number.numbers r (actuals_in m.names.now mine held xs)) (entered_with g.N.Number.numbers r (actuals_in m.names.now mine held xs))) value (f.shown mine held itself) in
-    let large = as_large g.N.Number.numbers r k.laid m.names.now m.slots.items c.in_ok-frame.frame.slots.items all c.requires.framed f.framed c.in_ok-actuals.ensures.below fit shown suited in
-    let frame = ap (λ (z : Machine _). z.frame) c.leave-inner.ensures.back ∙ ap (λ (z : Outer _). z.frame) c.in_ok-outer.ensures.outer in
-    let inner = ap (λ (z : Frame _). counts_in z.slots.items) c.leave-inner.ensures.frame ∙ c.in_ok-ended.ensures.counts ∙ ap (λ (z : Frame _). counts_in z.slots.items) c.in_ok-outer.ensures.frame in
-    subst (λ z. z) (λ i. AreAsLarge (length r.unit.now.dummies) (counts_in (sym frame i).slots.items) (sym c.as_slice-2.ensures.value i) (sym inner i)) large
+    let suited = got_suited (HasOneCell m.names.now (counts_in m.slots.items)) (on_numbers g.N.Number.numbers mine None 0) held (procedure_of r.unit.now) r.unit.now.dummies (terms_in m.names.now c.args.terms.now) got (found ∙ ap (λ (xs : List (Actual _)). Ok (actuals_in m.names.now mine held xs)) (sym value)) (c.requires.suited (procedure_of r.unit.now) is) in
+    let below = subst (AreActualsBelow m.slots.items) (sym value) c.in_ok-actuals.ensures.below in
+    let large = as_large g.N.Number.numbers r k.laid m.names.now m.slots.items us all c.requires.framed (f.framed us filled) below (f.fits mine held itself) (f.shown us filled mine held itself) suited in
+    let outer = c.in_ok-outer.outer.frame in
+    let lent = c.in_ok-outer.ensures.lent r f.lent in
+    let sizes = ap (λ (z : Machine _). sizes_in z.frame.slots.items) c.leave-inner.ensures.back ∙ lent_sizes r all m.names.now m.slots.items outer.slots.items c.requires.framed lent in
+    let inner = ap (λ (z : Frame _). counts_in z.slots.items) c.leave-inner.ensures.frame ∙ c.run-ended.ensures.counts in
+    subst (λ z. z) (λ i. AreAsLarge (length r.unit.now.dummies) (sym sizes i) all (sym inner i)) large
 
 pub call-returns-in_err-ended-clause-ends : goal.call-returns-in_err-ended-clause-ends
 call-returns-in_err-ended-clause-ends g t c name found e s h =
@@ -559,17 +591,22 @@ call-returns-in_err-ended-clause-ends g t c name found e s h =
     let o = calls_of {C = g.row.N.Denot} (units_in rs) c.args.depth (setting_at e) name args c.args.line s in
     let q = calls_of {C = g.row.N.Denot} (units_in rs) (c.args.depth - 1) in
     let got = actuals_in names e.shape s.store c.in_ok-actuals.actuals.items in
-    let value = c.as_slice.ensures.value in
+    let value = c.as_slice-given.ensures.value in
     let f = c.in_ok-frame.ensures in
+    let us = c.enter.new.self.frame.slots.items in
+    let filled = c.in_ok-outer.ensures.filled r f.lent in
     let fit = ap (λ all. fit_from g.N.Number.numbers r (actuals_in names e.shape s.store all) 0) (sym value) ∙ f.fits e.shape s.store h.shown in
-    let shown = subst (λ all. Shows g.N.Number.numbers r.names c.in_ok-frame.frame.slots.items (shapes_with g.N.Number.numbers r (actuals_in names e.shape s.store all)) (entered_with g.N.Number.numbers r (actuals_in names e.shape s.store all))) value (f.shown e.shape s.store h.shown) in
-    let here = subst (λ ns. Shows g.N.Number.numbers ns c.in_ok-frame.frame.slots.items (shapes_with g.N.Number.numbers r got) (entered_with g.N.Number.numbers r got)) (sym f.names) shown in
+    let shown = subst (λ all. Shows g.N.Number.numbers r.names c.enter.new.self.frame.slots.items (shapes_with g.N.Number.numbers r (actuals_in names e.shape s.store all)) (entered_with g.N.Number.numbers r (actuals_in names e.shape s.store all))) value (f.shown us filled e.shape s.store h.shown) in
+    let entered_names = c.in_ok-outer.ensures.names ∙ f.names in
+    let here = subst (λ ns. Shows g.N.Number.numbers ns c.enter.new.self.frame.slots.items (shapes_with g.N.Number.numbers r got) (entered_with g.N.Number.numbers r got)) (sym entered_names) shown in
     let holds = c.in_ok-outer.ensures.holds e s (shapes_with g.N.Number.numbers r got) (entered_with g.N.Number.numbers r got) r.unit.now.name _ h here in
-    let ends = unit_ends q (inside e (shapes_with g.N.Number.numbers r got) (length m.tally.begun)) _ r c.enter.new.self.frame.names.now m.left c.enter.new.self.left (Err x) c.run-ended.new.self (ap (λ (z : Frame _). z.names.now) c.in_ok-outer.ensures.frame ∙ f.names) k.body c.in_ok-outer.ensures.left (c.in_err-ended.ensures.ends (inside e (shapes_with g.N.Number.numbers r got) (length m.tally.begun)) _ holds) in
+    let ends = unit_ends q (inside e (shapes_with g.N.Number.numbers r got) (length m.tally.begun)) _ r c.enter.new.self.frame.names.now m.left c.enter.new.self.left (Err x) c.run-ended.new.self entered_names k.body c.in_ok-outer.ensures.left (c.in_err-ended.ensures.ends (inside e (shapes_with g.N.Number.numbers r got) (length m.tally.begun)) _ holds) in
+    let m3 = c.hand_back.new.self in
     let back = c.leave-inner.ensures.back in
-    subst (λ z. Ends e o m.left z c.leave-inner.new.self) (sym err)
-    (subst (λ z. Ends e z m.left (Err x) c.leave-inner.new.self) (sym at)
-    (call_break q e s r r.writes.now args c.args.line m h got (c.in_ok-actuals.ensures.actuals e.shape (Some e.room) e.level s.store h.shown) fit c.run-ended.new.self x c.leave-inner.new.self ends (ap (λ (z : Machine _). z.left) back) (ap (λ (z : Machine _). z.tape) back) (ap (λ (z : Machine _). z.tally) back)))
+    let same = c.hand_back.ensures.same in
+    subst (λ z. Ends e o m.left z m3) (sym err)
+    (subst (λ z. Ends e z m.left (Err x) m3) (sym at)
+    (call_break q e s r r.writes.now args c.args.line m h got (c.in_ok-actuals.ensures.actuals e.shape (Some e.room) e.level s.store h.shown) fit c.run-ended.new.self x m3 ends (ap (λ (z : Machine _). z.left) same ∙ ap (λ (z : Machine _). z.left) back) (ap (λ (z : Machine _). z.tape) same ∙ ap (λ (z : Machine _). z.tape) back) (ap (λ (z : Machine _). z.tally) same ∙ ap (λ (z : Machine _). z.tally) back)))
 
 pub call-returns-then-not-is_closed-clause-ends : goal.call-returns-then-not-is_closed-clause-ends
 call-returns-then-not-is_closed-clause-ends g t c name found e s h =
@@ -583,16 +620,21 @@ call-returns-then-not-is_closed-clause-ends g t c name found e s h =
     let at = call_at rs c.args.depth c.args.number name (positive c.args.depth c.if-depth-eq0.false) found (setting_at e) args c.args.line s r r.writes.now lt c.index-program-number.is k.writes in
     let q = calls_of {C = g.row.N.Denot} (units_in rs) (c.args.depth - 1) in
     let got = actuals_in names e.shape s.store c.in_ok-actuals.actuals.items in
-    let value = c.as_slice.ensures.value in
+    let value = c.as_slice-given.ensures.value in
     let f = c.in_ok-frame.ensures in
+    let us = c.enter.new.self.frame.slots.items in
+    let filled = c.in_ok-outer.ensures.filled r f.lent in
     let fit = ap (λ all. fit_from g.N.Number.numbers r (actuals_in names e.shape s.store all) 0) (sym value) ∙ f.fits e.shape s.store h.shown in
-    let shown = subst (λ all. Shows g.N.Number.numbers r.names c.in_ok-frame.frame.slots.items (shapes_with g.N.Number.numbers r (actuals_in names e.shape s.store all)) (entered_with g.N.Number.numbers r (actuals_in names e.shape s.store all))) value (f.shown e.shape s.store h.shown) in
-    let here = subst (λ ns. Shows g.N.Number.numbers ns c.in_ok-frame.frame.slots.items (shapes_with g.N.Number.numbers r got) (entered_with g.N.Number.numbers r got)) (sym f.names) shown in
+    let shown = subst (λ all. Shows g.N.Number.numbers r.names c.enter.new.self.frame.slots.items (shapes_with g.N.Number.numbers r (actuals_in names e.shape s.store all)) (entered_with g.N.Number.numbers r (actuals_in names e.shape s.store all))) value (f.shown us filled e.shape s.store h.shown) in
+    let entered_names = c.in_ok-outer.ensures.names ∙ f.names in
+    let here = subst (λ ns. Shows g.N.Number.numbers ns c.enter.new.self.frame.slots.items (shapes_with g.N.Number.numbers r got) (entered_with g.N.Number.numbers r got)) (sym entered_names) shown in
     let holds = c.in_ok-outer.ensures.holds e s (shapes_with g.N.Number.numbers r got) (entered_with g.N.Number.numbers r got) r.unit.now.name _ h here in
-    let ends = unit_ends q (inside e (shapes_with g.N.Number.numbers r got) (length m.tally.begun)) _ r c.enter.new.self.frame.names.now m.left c.enter.new.self.left (Ok tt) c.run-ended.new.self (ap (λ (z : Frame _). z.names.now) c.in_ok-outer.ensures.frame ∙ f.names) k.body c.in_ok-outer.ensures.left (c.in_ok-ended.ensures.ends (inside e (shapes_with g.N.Number.numbers r got) (length m.tally.begun)) _ holds) in
+    let ends = unit_ends q (inside e (shapes_with g.N.Number.numbers r got) (length m.tally.begun)) _ r c.enter.new.self.frame.names.now m.left c.enter.new.self.left (Ok tt) c.run-ended.new.self entered_names k.body c.in_ok-outer.ensures.left (c.in_ok-ended.ensures.ends (inside e (shapes_with g.N.Number.numbers r got) (length m.tally.begun)) _ holds) in
+    let m3 = c.hand_back.new.self in
     let back = c.leave-inner.ensures.back in
-    subst (λ z. Ends e z m.left (Err (stop.Trap trap.Schedule c.args.line)) c.leave-inner.new.self) (sym at)
-    (call_open q e s r r.writes.now args c.args.line m h got (c.in_ok-actuals.ensures.actuals e.shape (Some e.room) e.level s.store h.shown) fit c.run-ended.new.self c.leave-inner.new.self ends (sym c.leave-inner.ensures.closed ∙ c.if-not-is_closed.true) (ap (λ (z : Machine _). z.left) back) (ap (λ (z : Machine _). z.tape) back) (ap (λ (z : Machine _). z.tally) back))
+    let same = c.hand_back.ensures.same in
+    subst (λ z. Ends e z m.left (Err (stop.Trap trap.Schedule c.args.line)) m3) (sym at)
+    (call_open q e s r r.writes.now args c.args.line m h got (c.in_ok-actuals.ensures.actuals e.shape (Some e.room) e.level s.store h.shown) fit c.run-ended.new.self m3 ends (sym c.leave-inner.ensures.closed ∙ c.if-not-is_closed.true) (ap (λ (z : Machine _). z.left) same ∙ ap (λ (z : Machine _). z.left) back) (ap (λ (z : Machine _). z.tape) same ∙ ap (λ (z : Machine _). z.tape) back) (ap (λ (z : Machine _). z.tally) same ∙ ap (λ (z : Machine _). z.tally) back))
 
 pub call-returns-clause-ends : goal.call-returns-clause-ends
 call-returns-clause-ends g t c name found e s h =
@@ -607,13 +649,15 @@ call-returns-clause-ends g t c name found e s h =
     let o = calls_of {C = g.row.N.Denot} (units_in rs) c.args.depth (setting_at e) name args c.args.line s in
     let q = calls_of {C = g.row.N.Denot} (units_in rs) (c.args.depth - 1) in
     let got = actuals_in names e.shape s.store c.in_ok-actuals.actuals.items in
-    let value = c.as_slice.ensures.value in
+    let value = c.as_slice-given.ensures.value in
     let f = c.in_ok-frame.ensures in
+    let us = c.enter.new.self.frame.slots.items in
+    let filled = c.in_ok-outer.ensures.filled r f.lent in
     let fit = ap (λ all. fit_from g.N.Number.numbers r (actuals_in names e.shape s.store all) 0) (sym value) ∙ f.fits e.shape s.store h.shown in
-    let shown = subst (λ all. Shows g.N.Number.numbers r.names c.in_ok-frame.frame.slots.items (shapes_with g.N.Number.numbers r (actuals_in names e.shape s.store all)) (entered_with g.N.Number.numbers r (actuals_in names e.shape s.store all))) value (f.shown e.shape s.store h.shown) in
-    let here = subst (λ ns. Shows g.N.Number.numbers ns c.in_ok-frame.frame.slots.items (shapes_with g.N.Number.numbers r got) (entered_with g.N.Number.numbers r got)) (sym f.names) shown in
+    let shown = subst (λ all. Shows g.N.Number.numbers r.names c.enter.new.self.frame.slots.items (shapes_with g.N.Number.numbers r (actuals_in names e.shape s.store all)) (entered_with g.N.Number.numbers r (actuals_in names e.shape s.store all))) value (f.shown us filled e.shape s.store h.shown) in
+    let entered_names = c.in_ok-outer.ensures.names ∙ f.names in
+    let here = subst (λ ns. Shows g.N.Number.numbers ns c.enter.new.self.frame.slots.items (shapes_with g.N.Number.numbers r got) (entered_with g.N.Number.numbers r got)) (sym entered_names) shown in
     let holds = c.in_ok-outer.ensures.holds e s (shapes_with g.N.Number.numbers r got) (entered_with g.N.Number.numbers r got) r.unit.now.name _ h here in
-    let entered_names = ap (λ (z : Frame _). z.names.now) c.in_ok-outer.ensures.frame ∙ f.names in
     let ends = unit_ends q (inside e (shapes_with g.N.Number.numbers r got) (length m.tally.begun)) _ r c.enter.new.self.frame.names.now m.left c.enter.new.self.left (Ok tt) c.run-ended.new.self entered_names k.body c.in_ok-outer.ensures.left (c.in_ok-ended.ensures.ends (inside e (shapes_with g.N.Number.numbers r got) (length m.tally.begun)) _ holds) in
     let m1 = c.run-ended.new.self in
     let m2 = c.leave-inner.new.self in
@@ -621,7 +665,12 @@ call-returns-clause-ends g t c name found e s h =
     let back = c.leave-inner.ensures.back in
     let outer = c.in_ok-outer.ensures.outer in
     let same = c.hand_back.ensures.same in
-    let frame = ap (λ (z : Machine _). z.frame) back ∙ ap (λ (z : Outer _). z.frame) outer in
+    let frame = ap (λ (z : Machine _). z.frame) back in
+    let all = c.as_slice-given.result.now in
+    let caller = c.in_ok-outer.ensures.caller in
+    let kept = c.in_ok-outer.outer.frame.slots.items in
+    let lent = lent_shows g.N.Number.numbers r all names m.frame.slots.items kept e.shape s.store (c.in_ok-outer.ensures.lent r f.lent) h.shown in
+    let named_so = ap (λ (z : Frame _). z.names.now) frame ∙ caller in
     let inner = c.leave-inner.ensures.frame in
     let inner_names = ap (λ (z : Frame _). z.names.now) inner ∙ c.in_ok-ended.ensures.names ∙ entered_names in
     let handed = c.hand_back.ensures.handed in
@@ -632,10 +681,35 @@ call-returns-clause-ends g t c name found e s h =
     (ap (λ (z : Machine _). z.left) same ∙ ap (λ (z : Machine _). z.left) back)
     (ap (λ (z : Machine _). z.level) same ∙ ap (λ (z : Machine _). z.level) back ∙ ap (λ (z : Outer _). z.level) outer)
     (ap (λ (z : Machine _). z.base) same ∙ ap (λ (z : Machine _). z.base) back ∙ ap (λ (z : Outer _). z.base) outer)
-    (λ u q.
-    let mine = subst (λ (z : Frame _). Shows g.N.Number.numbers z.names.now z.slots.items e.shape s.store) (sym frame) h.shown in
+    (λ q.
+    let u = ends.scene.store in
+    let read = unwritten_read rs c.args.number name found r lt c.index-program-number.is k names e.shape s.store all (c.args.depth - 1) (setting_at (inside e (shapes_with g.N.Number.numbers r got) (length m.tally.begun))) _ ends.scene (m.left - m1.left + 0) 0 (ends.uses.ends 0) (λ x. λ j. ap (λ (xs : List (Actual _)). entered_with g.N.Number.numbers r (actuals_in names e.shape s.store xs) x j) (sym value)) in
+    let mine = subst (λ (z : Frame _). ShowsHeld g.N.Number.numbers z.names.now z.slots.items e.shape s.store) (sym frame) (subst (λ ns. ShowsHeld g.N.Number.numbers ns kept e.shape s.store) (sym caller) lent) in
     let theirs = subst (λ (z : Frame _). Shows g.N.Number.numbers z.names.now z.slots.items (shapes_with g.N.Number.numbers r got) u) (sym inner) q in
     let named = subst (λ ns. Shows g.N.Number.numbers ns c.leave-inner.result.0.slots.items (shapes_with g.N.Number.numbers r got) u) inner_names theirs in
-    let out = handed e.shape (shapes_with g.N.Number.numbers r got) s.store s.store u mine named in
-    let copied = subst (λ (p : Frame _ × List (Actual _)). Shows g.N.Number.numbers m2.frame.names.now m3.frame.slots.items e.shape (copied_out r.unit.now.dummies r.writes.now (actuals_in p.0.names.now e.shape s.store p.1) u s.store)) (λ i. (frame i, c.as_slice-2.ensures.value i)) out in
+    let out = handed e.shape (shapes_with g.N.Number.numbers r got) s.store s.store u mine named (subst (λ ns. AreRead r all ns u s.store) (sym named_so) read) in
+    let copied = subst (λ (p : List (List ℕ) × List (Actual _)). Shows g.N.Number.numbers m2.frame.names.now m3.frame.slots.items e.shape (copied_out r.unit.now.dummies r.writes.now (actuals_in p.0 e.shape s.store p.1) u s.store)) (λ i. (named_so i, value i)) out in
     subst (λ ns. Shows g.N.Number.numbers ns m3.frame.slots.items e.shape (copied_out r.unit.now.dummies r.writes.now got u s.store)) (sym c.hand_back.ensures.names) copied))
+
+-- ---- the caller's entry after a call
+
+pub call-returns-in_err-ended-clause-counts : goal.call-returns-in_err-ended-clause-counts
+call-returns-in_err-ended-clause-counts g t c =
+    let m = c.args.self.now.frame in
+    let outer = c.in_ok-outer.outer.frame in
+    c.hand_back.ensures.counts ∙ ap (λ (z : Machine _). sizes_in z.frame.slots.items) c.leave-inner.ensures.back
+    ∙ lent_sizes c.index-program-number.result c.as_slice-given.result.now m.names.now m.slots.items outer.slots.items c.requires.framed (c.in_ok-outer.ensures.lent c.index-program-number.result c.in_ok-frame.ensures.lent)
+
+pub call-returns-then-not-is_closed-clause-counts : goal.call-returns-then-not-is_closed-clause-counts
+call-returns-then-not-is_closed-clause-counts g t c =
+    let m = c.args.self.now.frame in
+    let outer = c.in_ok-outer.outer.frame in
+    c.hand_back.ensures.counts ∙ ap (λ (z : Machine _). sizes_in z.frame.slots.items) c.leave-inner.ensures.back
+    ∙ lent_sizes c.index-program-number.result c.as_slice-given.result.now m.names.now m.slots.items outer.slots.items c.requires.framed (c.in_ok-outer.ensures.lent c.index-program-number.result c.in_ok-frame.ensures.lent)
+
+pub call-returns-clause-counts : goal.call-returns-clause-counts
+call-returns-clause-counts g t c =
+    let m = c.args.self.now.frame in
+    let outer = c.in_ok-outer.outer.frame in
+    c.hand_back.ensures.counts ∙ ap (λ (z : Machine _). sizes_in z.frame.slots.items) c.leave-inner.ensures.back
+    ∙ lent_sizes c.index-program-number.result c.as_slice-given.result.now m.names.now m.slots.items outer.slots.items c.requires.framed (c.in_ok-outer.ensures.lent c.index-program-number.result c.in_ok-frame.ensures.lent)

@@ -1,10 +1,11 @@
-use Rattle.std.proofs.Common.{◌≡◌, suc, ◌∷◌, length, ap, ap₂, sym, subst, ◌∙◌, arith}
+use Rattle.std.proofs.Common.{rules, vec_len, ◌≡◌, suc, ◌∷◌, length, ap, ap₂, sym, subst, ◌∙◌, arith}
 use Rattle.def_meaning.specs.Event.{Enter}
 use Rattle.adj_interp_frame.specs.declared.frame.Frame.{Frame}
 use Rattle.adj_interp_frame.specs.Shown.{Shows}
 use Rattle.adj_interp.specs.Tallied.{Tallied, with_entry}
 use Rattle.adj_interp.specs.Held.{Tells}
-use Rattle.adj_interp.proofs.Calling.{entry_count}
+use Rattle.adj_interp_frame.specs.Lent.{AreLent, AreFilled, HaveLent}
+use Rattle.adj_interp.proofs.Calling.{entry_count, filled_whole}
 use Rattle.adj_interp.proofs.Driving.{told_next}
 use Rattle.adj_interp.proofs.machine.Machine.enter.Goals as goal
 
@@ -22,8 +23,21 @@ returns-clause-holds g c e s shape t name shapes h q =
       room = h.room;
       level = c.replace-3.ensures.after ∙ level;
       base = based ∙ ap (λ (z : Tallied). length z.begun) counted ∙ entry_count c.in-Some.level c.len-height.result m.tally.log m.tally.begun;
-      shown = subst (λ (f : Frame _). Shows g.N.Number.numbers f.names.now f.slots.items shape t) (sym c.replace.ensures.after) q;
+      shown = q;
       tape = h.tape;
       opened = omega (arith, based);
       told = subst (λ z. Tells z (Enter name (suc e.level) (length s.tape) shapes ∷ s.events)) (sym told) (told_next m.tally (Enter name (suc e.level) (length s.tape) shapes) s.events h.told);
     }
+
+pub returns-clause-filled : goal.returns-clause-filled
+returns-clause-filled g c r l =
+    let ws = c.args.frame.slots in
+    let v = c.as_mut_slice.ensures.value in
+    let len : vec_len c.args.frame.slots ≡ length c.args.frame.slots.items = search rules in
+    subst (λ (f : Frame _). AreFilled c.args.self.now.frame.slots.items c.args.actuals.now c.args.frame.slots.items f.slots.items) (sym c.replace.ensures.after)
+    (filled_whole c.args.self.now.frame.slots.items c.args.actuals.now ws.items c.as_mut_slice.result.now c.lend.new.slots (vec_len ws) v len (c.lend.ensures.filled r (subst (AreLent r c.args.actuals.now) (sym v) l)))
+
+pub returns-clause-lent : goal.returns-clause-lent
+returns-clause-lent g c r l =
+    let same : c.replace.result ≡ c.lend.new.self = search rules in
+    subst (λ (f : Frame _). HaveLent r c.args.actuals.now c.args.self.now.frame.slots.items f.slots.items) (sym same) (c.lend.ensures.lent r (subst (AreLent r c.args.actuals.now) (sym c.as_mut_slice.ensures.value) l))

@@ -37,7 +37,7 @@ cell_behind-returns-in-Empty-deref g t c =
     let v = c.index-in-Empty-deref.result.now in
     let row = c.args.row in
     let column = c.word-column.result in
-    let z = c.in_ok-value-in-More.field-0 in
+    let z = c.in_ok-operand-in-More.field-0 in
     let n = setting_in_slots g.N.Number.numbers names vs in
     let s = store_in g.N.Number.numbers names vs in
     let shape = read_shape names vs c.args.i v c.requires.framed c.requires.there in
@@ -48,7 +48,7 @@ cell_behind-returns-in-Empty-deref g t c =
           ∙ (λ k. or_trap index (cell_of (slot_shape v) (to_z-of_z w64 row c.ranges.row k ∷ to_z-of_z w64 column fits k ∷ [])))
           ∙ ap (λ (w : Slot _). or_trap index (cell_of (slot_shape w) (row ∷ column ∷ []))) c.index-in-Empty-deref.ensures ∙ ap (λ sh. or_trap index (cell_of sh (row ∷ column ∷ []))) (sym shape)
           ∙ ap (λ u. cell_at n (var_at names c.args.i) (row ∷ u ∷ [])) c.word-column.ensures
-          ∙ sym (only_one g.N.Number.numbers (value n (term_in names c.in-More.second.value) s) (values n (terms_in names c.in-More.others.value) s) (λ is. cell_at n (var_at names c.args.i) (row ∷ is)) z (c.in_ok-value-in-More.ensures.value ∙ ap (λ e. value n (term_in names e) s) c.deref.ensures) no_more));
+          ∙ sym (only_one g.N.Number.numbers (value n (term_in names c.in-More.second.value) s) (values n (terms_in names c.in-More.others.value) s) (λ is. cell_at n (var_at names c.args.i) (row ∷ is)) z (c.in_ok-operand-in-More.ensures.value ∙ ap (λ e. value n (term_in names e) s) c.deref.ensures) no_more));
     }
 
 pub value-index-requires-in-Elem-2 : goal.value-index-requires-in-Elem-2
@@ -64,6 +64,17 @@ value-index-requires-in-Elem-2 g t c =
 
 pub value-returns-in-Var : goal.value-returns-in-Var
 value-returns-in-Var g t c =
+    let names = c.args.self.now.names.now in
+    let vs = c.args.self.now.slots.items in
+    let i = c.in-Var.i in
+    let v = c.index.result.now in
+    let below = rw c.in-Var.is at c.requires.below in
+    record {
+      value = rw c.in-Var.is (ap Ok (c.first.ensures ∙ ap (λ (w : Slot _). get_or w.cells.items 0 (zero_in g.N.Number.numbers)) c.index.ensures ∙ sym (read_cell g.N.Number.numbers names vs i v 0 c.requires.framed below)));
+    }
+
+pub operand-returns-in-Var : goal.operand-returns-in-Var
+operand-returns-in-Var g t c =
     let names = c.args.self.now.names.now in
     let vs = c.args.self.now.slots.items in
     let i = c.in-Var.i in
@@ -110,62 +121,62 @@ module _ {C : Type 0} (n : Setting C) (s : Store C) (names : List (List ℕ)) wh
     kept_second : (t : CodeTrap) (r : Result C CodeTrap) → d ≡ a → Ok z ≡ value n (term_in names d) s → d2 ≡ b → result_of {A = C} (Err t) ≡ value n (term_in names d2) s → r ≡ Err t → result_of r ≡ then_ok (value n (term_in names a) s) (λ u. then_ok (value n (term_in names b) s) (f u))
     kept_second t r q e q2 e2 h = went (λ u. then_ok (value n (term_in names b) s) (f u)) d a z (result_of r) q e (kept (f z) d2 b t r q2 e2 h)
 
-pub value-returns-in_ok-value-in-Neg : goal.value-returns-in_ok-value-in-Neg
-value-returns-in_ok-value-in-Neg g t c =
+pub value-returns-in_ok-operand-in-Neg : goal.value-returns-in_ok-operand-in-Neg
+value-returns-in_ok-operand-in-Neg g t c =
     let names = c.args.self.now.names.now in
     let vs = c.args.self.now.slots.items in
     let numbers = g.N.Number.numbers in
     let n = setting_in_slots numbers names vs in
     let s = store_in numbers names vs in
-    record { value = rw c.in-Neg.is (went n s names (λ u. Ok (numbers.negation u)) c.deref.result.now c.in-Neg.a.value c.in_ok-value-in-Neg.field-0 (Ok c.negation.result) c.deref.ensures c.in_ok-value-in-Neg.ensures.value (ap Ok c.negation.ensures)) }
+    record { value = rw c.in-Neg.is (went n s names (λ u. Ok (numbers.negation u)) c.deref.result.now c.in-Neg.a.value c.in_ok-operand-in-Neg.field-0 (Ok c.negation.result) c.deref.ensures c.in_ok-operand-in-Neg.ensures.value (ap Ok c.negation.ensures)) }
 
-pub value-returns-in_err-value-in-Neg : goal.value-returns-in_err-value-in-Neg
-value-returns-in_err-value-in-Neg g t c =
+pub value-returns-in_err-operand-in-Neg : goal.value-returns-in_err-operand-in-Neg
+value-returns-in_err-operand-in-Neg g t c =
     let names = c.args.self.now.names.now in
     let vs = c.args.self.now.slots.items in
     let numbers = g.N.Number.numbers in
     let n = setting_in_slots numbers names vs in
     let s = store_in numbers names vs in
-    let r = err_is c.from_residual-in_err-value-in-Neg.result c.in_err-value-in-Neg.field-0.0 c.from_residual-in_err-value-in-Neg.ensures.1 in
-    record { value = rw c.in-Neg.is (kept n s names (λ u. Ok (numbers.negation u)) c.deref.result.now c.in-Neg.a.value c.in_err-value-in-Neg.field-0.0 c.from_residual-in_err-value-in-Neg.result c.deref.ensures c.in_err-value-in-Neg.ensures.value r) }
+    let r = err_is c.from_residual-in_err-operand-in-Neg.result c.in_err-operand-in-Neg.field-0.0 c.from_residual-in_err-operand-in-Neg.ensures.1 in
+    record { value = rw c.in-Neg.is (kept n s names (λ u. Ok (numbers.negation u)) c.deref.result.now c.in-Neg.a.value c.in_err-operand-in-Neg.field-0.0 c.from_residual-in_err-operand-in-Neg.result c.deref.ensures c.in_err-operand-in-Neg.ensures.value r) }
 
-pub value-returns-in_ok-value-in-Pow : goal.value-returns-in_ok-value-in-Pow
-value-returns-in_ok-value-in-Pow g t c =
+pub value-returns-in_ok-operand-in-Pow : goal.value-returns-in_ok-operand-in-Pow
+value-returns-in_ok-operand-in-Pow g t c =
     let names = c.args.self.now.names.now in
     let vs = c.args.self.now.slots.items in
     let numbers = g.N.Number.numbers in
     let n = setting_in_slots numbers names vs in
     let s = store_in numbers names vs in
-    record { value = rw c.in-Pow.is (went n s names (λ u. Ok (numbers.raised_to u c.in-Pow.power)) c.deref-in-Pow.result.now c.in-Pow.a.value c.in_ok-value-in-Pow.field-0 (Ok c.power.result) c.deref-in-Pow.ensures c.in_ok-value-in-Pow.ensures.value (ap Ok c.power.ensures)) }
+    record { value = rw c.in-Pow.is (went n s names (λ u. Ok (numbers.raised_to u c.in-Pow.power)) c.deref-in-Pow.result.now c.in-Pow.a.value c.in_ok-operand-in-Pow.field-0 (Ok c.power.result) c.deref-in-Pow.ensures c.in_ok-operand-in-Pow.ensures.value (ap Ok c.power.ensures)) }
 
-pub value-returns-in_err-value-in-Pow : goal.value-returns-in_err-value-in-Pow
-value-returns-in_err-value-in-Pow g t c =
+pub value-returns-in_err-operand-in-Pow : goal.value-returns-in_err-operand-in-Pow
+value-returns-in_err-operand-in-Pow g t c =
     let names = c.args.self.now.names.now in
     let vs = c.args.self.now.slots.items in
     let numbers = g.N.Number.numbers in
     let n = setting_in_slots numbers names vs in
     let s = store_in numbers names vs in
-    let r = err_is c.from_residual-in_err-value-in-Pow.result c.in_err-value-in-Pow.field-0.0 c.from_residual-in_err-value-in-Pow.ensures.1 in
-    record { value = rw c.in-Pow.is (kept n s names (λ u. Ok (numbers.raised_to u c.in-Pow.power)) c.deref-in-Pow.result.now c.in-Pow.a.value c.in_err-value-in-Pow.field-0.0 c.from_residual-in_err-value-in-Pow.result c.deref-in-Pow.ensures c.in_err-value-in-Pow.ensures.value r) }
+    let r = err_is c.from_residual-in_err-operand-in-Pow.result c.in_err-operand-in-Pow.field-0.0 c.from_residual-in_err-operand-in-Pow.ensures.1 in
+    record { value = rw c.in-Pow.is (kept n s names (λ u. Ok (numbers.raised_to u c.in-Pow.power)) c.deref-in-Pow.result.now c.in-Pow.a.value c.in_err-operand-in-Pow.field-0.0 c.from_residual-in_err-operand-in-Pow.result c.deref-in-Pow.ensures c.in_err-operand-in-Pow.ensures.value r) }
 
-pub value-returns-in_ok-value-in-Abs : goal.value-returns-in_ok-value-in-Abs
-value-returns-in_ok-value-in-Abs g t c =
+pub value-returns-in_ok-operand-in-Abs : goal.value-returns-in_ok-operand-in-Abs
+value-returns-in_ok-operand-in-Abs g t c =
     let names = c.args.self.now.names.now in
     let vs = c.args.self.now.slots.items in
     let numbers = g.N.Number.numbers in
     let n = setting_in_slots numbers names vs in
     let s = store_in numbers names vs in
-    record { value = rw c.in-Abs.is (went n s names (λ u. Ok (absolute numbers u)) c.deref-in-Abs.result.now c.in-Abs.a.value c.in_ok-value-in-Abs.field-0 (Ok c.absolute.result) c.deref-in-Abs.ensures c.in_ok-value-in-Abs.ensures.value (ap Ok c.absolute.ensures)) }
+    record { value = rw c.in-Abs.is (went n s names (λ u. Ok (absolute numbers u)) c.deref-in-Abs.result.now c.in-Abs.a.value c.in_ok-operand-in-Abs.field-0 (Ok c.absolute.result) c.deref-in-Abs.ensures c.in_ok-operand-in-Abs.ensures.value (ap Ok c.absolute.ensures)) }
 
-pub value-returns-in_err-value-in-Abs : goal.value-returns-in_err-value-in-Abs
-value-returns-in_err-value-in-Abs g t c =
+pub value-returns-in_err-operand-in-Abs : goal.value-returns-in_err-operand-in-Abs
+value-returns-in_err-operand-in-Abs g t c =
     let names = c.args.self.now.names.now in
     let vs = c.args.self.now.slots.items in
     let numbers = g.N.Number.numbers in
     let n = setting_in_slots numbers names vs in
     let s = store_in numbers names vs in
-    let r = err_is c.from_residual-in_err-value-in-Abs.result c.in_err-value-in-Abs.field-0.0 c.from_residual-in_err-value-in-Abs.ensures.1 in
-    record { value = rw c.in-Abs.is (kept n s names (λ u. Ok (absolute numbers u)) c.deref-in-Abs.result.now c.in-Abs.a.value c.in_err-value-in-Abs.field-0.0 c.from_residual-in_err-value-in-Abs.result c.deref-in-Abs.ensures c.in_err-value-in-Abs.ensures.value r) }
+    let r = err_is c.from_residual-in_err-operand-in-Abs.result c.in_err-operand-in-Abs.field-0.0 c.from_residual-in_err-operand-in-Abs.ensures.1 in
+    record { value = rw c.in-Abs.is (kept n s names (λ u. Ok (absolute numbers u)) c.deref-in-Abs.result.now c.in-Abs.a.value c.in_err-operand-in-Abs.field-0.0 c.from_residual-in_err-operand-in-Abs.result c.deref-in-Abs.ensures c.in_err-operand-in-Abs.ensures.value r) }
 
 pub value-returns-in_err-left-in-Bin : goal.value-returns-in_err-left-in-Bin
 value-returns-in_err-left-in-Bin g t c =
@@ -206,15 +217,15 @@ value-returns-in_err-base-in-Power g t c =
     let r = err_is c.from_residual-in_err-base-in-Power.result c.in_err-base-in-Power.field-0.0 c.from_residual-in_err-base-in-Power.ensures.1 in
     record { value = rw c.in-Power.is (kept n s names (λ u. then_ok (value n (term_in names c.in-Power.b.value) s) (λ v. then_ok (exponent_of (numbers.shown v)) (λ k. Ok (numbers.raised_to u k)))) c.deref-in-Power.result.now c.in-Power.a.value c.in_err-base-in-Power.field-0.0 c.from_residual-in_err-base-in-Power.result c.deref-in-Power.ensures c.in_err-base-in-Power.ensures.value r) }
 
-pub value-returns-in_err-value-in-Power : goal.value-returns-in_err-value-in-Power
-value-returns-in_err-value-in-Power g t c =
+pub value-returns-in_err-operand-in-Power : goal.value-returns-in_err-operand-in-Power
+value-returns-in_err-operand-in-Power g t c =
     let names = c.args.self.now.names.now in
     let vs = c.args.self.now.slots.items in
     let numbers = g.N.Number.numbers in
     let n = setting_in_slots numbers names vs in
     let s = store_in numbers names vs in
-    let r = err_is c.from_residual-in_err-value-in-Power.result c.in_err-value-in-Power.field-0.0 c.from_residual-in_err-value-in-Power.ensures.1 in
-    record { value = rw c.in-Power.is (kept_second n s names (λ u v. then_ok (exponent_of (numbers.shown v)) (λ k. Ok (numbers.raised_to u k))) c.deref-in-Power.result.now c.in-Power.a.value c.deref-in-Power-2.result.now c.in-Power.b.value c.in_ok-base-in-Power.base c.in_err-value-in-Power.field-0.0 c.from_residual-in_err-value-in-Power.result c.deref-in-Power.ensures c.in_ok-base-in-Power.ensures.value c.deref-in-Power-2.ensures c.in_err-value-in-Power.ensures.value r) }
+    let r = err_is c.from_residual-in_err-operand-in-Power.result c.in_err-operand-in-Power.field-0.0 c.from_residual-in_err-operand-in-Power.ensures.1 in
+    record { value = rw c.in-Power.is (kept_second n s names (λ u v. then_ok (exponent_of (numbers.shown v)) (λ k. Ok (numbers.raised_to u k))) c.deref-in-Power.result.now c.in-Power.a.value c.deref-in-Power-2.result.now c.in-Power.b.value c.in_ok-base-in-Power.base c.in_err-operand-in-Power.field-0.0 c.from_residual-in_err-operand-in-Power.result c.deref-in-Power.ensures c.in_ok-base-in-Power.ensures.value c.deref-in-Power-2.ensures c.in_err-operand-in-Power.ensures.value r) }
 
 pub value-returns-in_err-power-in-Power : goal.value-returns-in_err-power-in-Power
 value-returns-in_err-power-in-Power g t c =
@@ -225,7 +236,7 @@ value-returns-in_err-power-in-Power g t c =
     let s = store_in numbers names vs in
     let fits : FitsSigned w64 c.word.result = search rules in
     let r = err_is c.from_residual-in_err-power-in-Power.result c.in_err-power-in-Power.field-0.0 c.from_residual-in_err-power-in-Power.ensures.1 in
-    record { value = rw c.in-Power.is (went_second n s names (λ u v. then_ok (exponent_of (numbers.shown v)) (λ k. Ok (numbers.raised_to u k))) c.deref-in-Power.result.now c.in-Power.a.value c.deref-in-Power-2.result.now c.in-Power.b.value c.in_ok-base-in-Power.base c.in_ok-value-in-Power.field-0 (result_of c.from_residual-in_err-power-in-Power.result) c.deref-in-Power.ensures c.in_ok-base-in-Power.ensures.value c.deref-in-Power-2.ensures c.in_ok-value-in-Power.ensures.value (ap result_of r ∙ ap (λ x. then_ok x (λ k. Ok (numbers.raised_to c.in_ok-base-in-Power.base k))) (c.in_err-power-in-Power.ensures ∙ ap exponent_of (to_z-of_z w64 c.word.result fits ∙ c.word.ensures)))) }
+    record { value = rw c.in-Power.is (went_second n s names (λ u v. then_ok (exponent_of (numbers.shown v)) (λ k. Ok (numbers.raised_to u k))) c.deref-in-Power.result.now c.in-Power.a.value c.deref-in-Power-2.result.now c.in-Power.b.value c.in_ok-base-in-Power.base c.in_ok-operand-in-Power.field-0 (result_of c.from_residual-in_err-power-in-Power.result) c.deref-in-Power.ensures c.in_ok-base-in-Power.ensures.value c.deref-in-Power-2.ensures c.in_ok-operand-in-Power.ensures.value (ap result_of r ∙ ap (λ x. then_ok x (λ k. Ok (numbers.raised_to c.in_ok-base-in-Power.base k))) (c.in_err-power-in-Power.ensures ∙ ap exponent_of (to_z-of_z w64 c.word.result fits ∙ c.word.ensures)))) }
 
 pub value-returns-in_ok-power-in-Power : goal.value-returns-in_ok-power-in-Power
 value-returns-in_ok-power-in-Power g t c =
@@ -235,60 +246,60 @@ value-returns-in_ok-power-in-Power g t c =
     let n = setting_in_slots numbers names vs in
     let s = store_in numbers names vs in
     let fits : FitsSigned w64 c.word.result = search rules in
-    record { value = rw c.in-Power.is (went_second n s names (λ u v. then_ok (exponent_of (numbers.shown v)) (λ k. Ok (numbers.raised_to u k))) c.deref-in-Power.result.now c.in-Power.a.value c.deref-in-Power-2.result.now c.in-Power.b.value c.in_ok-base-in-Power.base c.in_ok-value-in-Power.field-0 (Ok c.power-in-Power.result) c.deref-in-Power.ensures c.in_ok-base-in-Power.ensures.value c.deref-in-Power-2.ensures c.in_ok-value-in-Power.ensures.value (ap Ok c.power-in-Power.ensures ∙ ap (λ x. then_ok x (λ k. Ok (numbers.raised_to c.in_ok-base-in-Power.base k))) (c.in_ok-power-in-Power.ensures ∙ ap exponent_of (to_z-of_z w64 c.word.result fits ∙ c.word.ensures)))) }
+    record { value = rw c.in-Power.is (went_second n s names (λ u v. then_ok (exponent_of (numbers.shown v)) (λ k. Ok (numbers.raised_to u k))) c.deref-in-Power.result.now c.in-Power.a.value c.deref-in-Power-2.result.now c.in-Power.b.value c.in_ok-base-in-Power.base c.in_ok-operand-in-Power.field-0 (Ok c.power-in-Power.result) c.deref-in-Power.ensures c.in_ok-base-in-Power.ensures.value c.deref-in-Power-2.ensures c.in_ok-operand-in-Power.ensures.value (ap Ok c.power-in-Power.ensures ∙ ap (λ x. then_ok x (λ k. Ok (numbers.raised_to c.in_ok-base-in-Power.base k))) (c.in_ok-power-in-Power.ensures ∙ ap exponent_of (to_z-of_z w64 c.word.result fits ∙ c.word.ensures)))) }
 
 -- ---- operands are smaller, and their numbers have slots
 
-pub value-value-requires : goal.value-value-requires
-value-value-requires g t c κs alive =
+pub value-operand-requires : goal.value-operand-requires
+value-operand-requires g t c κs alive =
     let below = rw c.in-Neg.is at c.requires.below in
     let whole = sized-Neg c.in-Neg.a in
     let was = ap size-Term c.in-Neg.is in
     let left = ap size-Term c.deref.ensures in
     (omega (arith, c.decreases, whole, was, left), (alive, (c.requires.framed, subst (IsTermBelow (length c.args.self.now.slots.items)) (sym c.deref.ensures) below)))
 
-pub value-value-requires-in-Bin : goal.value-value-requires-in-Bin
-value-value-requires-in-Bin g t c κs alive =
+pub value-operand-requires-in-Bin : goal.value-operand-requires-in-Bin
+value-operand-requires-in-Bin g t c κs alive =
     let below = rw c.in-Bin.is at c.requires.below in
     let whole = sized-Bin c.in-Bin.op c.in-Bin.a c.in-Bin.b in
     let was = ap size-Term c.in-Bin.is in
     let left = ap size-Term c.deref-in-Bin.ensures in
     (omega (arith, c.decreases, whole, was, left), (alive, (c.requires.framed, subst (IsTermBelow (length c.args.self.now.slots.items)) (sym c.deref-in-Bin.ensures) below.0)))
 
-pub value-value-requires-in-Bin-2 : goal.value-value-requires-in-Bin-2
-value-value-requires-in-Bin-2 g t c κs alive =
+pub value-operand-requires-in-Bin-2 : goal.value-operand-requires-in-Bin-2
+value-operand-requires-in-Bin-2 g t c κs alive =
     let below = rw c.in-Bin.is at c.requires.below in
     let whole = sized-Bin c.in-Bin.op c.in-Bin.a c.in-Bin.b in
     let was = ap size-Term c.in-Bin.is in
     let left = ap size-Term c.deref-in-Bin-2.ensures in
     (omega (arith, c.decreases, whole, was, left), (alive, (c.requires.framed, subst (IsTermBelow (length c.args.self.now.slots.items)) (sym c.deref-in-Bin-2.ensures) below.1)))
 
-pub value-value-requires-in-Pow : goal.value-value-requires-in-Pow
-value-value-requires-in-Pow g t c κs alive =
+pub value-operand-requires-in-Pow : goal.value-operand-requires-in-Pow
+value-operand-requires-in-Pow g t c κs alive =
     let below = rw c.in-Pow.is at c.requires.below in
     let whole = sized-Pow c.in-Pow.a c.in-Pow.power in
     let was = ap size-Term c.in-Pow.is in
     let left = ap size-Term c.deref-in-Pow.ensures in
     (omega (arith, c.decreases, whole, was, left), (alive, (c.requires.framed, subst (IsTermBelow (length c.args.self.now.slots.items)) (sym c.deref-in-Pow.ensures) below)))
 
-pub value-value-requires-in-Power : goal.value-value-requires-in-Power
-value-value-requires-in-Power g t c κs alive =
+pub value-operand-requires-in-Power : goal.value-operand-requires-in-Power
+value-operand-requires-in-Power g t c κs alive =
     let below = rw c.in-Power.is at c.requires.below in
     let whole = sized-Power c.in-Power.a c.in-Power.b in
     let was = ap size-Term c.in-Power.is in
     let left = ap size-Term c.deref-in-Power.ensures in
     (omega (arith, c.decreases, whole, was, left), (alive, (c.requires.framed, subst (IsTermBelow (length c.args.self.now.slots.items)) (sym c.deref-in-Power.ensures) below.0)))
 
-pub value-value-requires-in-Power-2 : goal.value-value-requires-in-Power-2
-value-value-requires-in-Power-2 g t c κs alive =
+pub value-operand-requires-in-Power-2 : goal.value-operand-requires-in-Power-2
+value-operand-requires-in-Power-2 g t c κs alive =
     let below = rw c.in-Power.is at c.requires.below in
     let whole = sized-Power c.in-Power.a c.in-Power.b in
     let was = ap size-Term c.in-Power.is in
     let left = ap size-Term c.deref-in-Power-2.ensures in
     (omega (arith, c.decreases, whole, was, left), (alive, (c.requires.framed, subst (IsTermBelow (length c.args.self.now.slots.items)) (sym c.deref-in-Power-2.ensures) below.1)))
 
-pub value-value-requires-in-Abs : goal.value-value-requires-in-Abs
-value-value-requires-in-Abs g t c κs alive =
+pub value-operand-requires-in-Abs : goal.value-operand-requires-in-Abs
+value-operand-requires-in-Abs g t c κs alive =
     let below = rw c.in-Abs.is at c.requires.below in
     let whole = sized-Abs c.in-Abs.a in
     let was = ap size-Term c.in-Abs.is in
@@ -302,16 +313,19 @@ value-cell-requires g t c κs alive =
     let was = ap size-Term c.in-Elem.is in
     (omega (arith, c.decreases, whole, was), (alive, (c.requires.framed, (below.0, below.1))))
 
-pub cell-value-requires : goal.cell-value-requires
-cell-value-requires g t c κs alive =
+pub operand-value-requires : goal.operand-value-requires
+operand-value-requires g t c κs alive = (omega (arith, c.decreases), (alive, (c.requires.framed, c.requires.below)))
+
+pub cell-operand-requires : goal.cell-operand-requires
+cell-operand-requires g t c κs alive =
     let below = rw c.in-More.is at c.requires.below in
     let whole = sized-More c.in-More.first c.in-More.rest in
     let was = ap size-Terms c.in-More.is in
     let left = ap size-Term c.deref.ensures in
     (omega (arith, c.decreases, whole, was, left), (alive, (c.requires.framed, subst (IsTermBelow (length c.args.self.now.slots.items)) (sym c.deref.ensures) below.0)))
 
-pub cell_behind-value-requires : goal.cell_behind-value-requires
-cell_behind-value-requires g t c κs alive =
+pub cell_behind-operand-requires : goal.cell_behind-operand-requires
+cell_behind-operand-requires g t c κs alive =
     let below = rw c.in-More.is at c.requires.below in
     let whole = sized-More c.in-More.second c.in-More.others in
     let was = ap size-Terms c.in-More.is in
@@ -320,8 +334,8 @@ cell_behind-value-requires g t c κs alive =
 
 -- ---- subscripts in order
 
-pub cell-returns-in_ok-value-in-More : goal.cell-returns-in_ok-value-in-More
-cell-returns-in_ok-value-in-More g t c =
+pub cell-returns-in_ok-operand-in-More : goal.cell-returns-in_ok-operand-in-More
+cell-returns-in_ok-operand-in-More g t c =
     let names = c.args.self.now.names.now in
     let vs = c.args.self.now.slots.items in
     let n = setting_in_slots g.N.Number.numbers names vs in
@@ -331,7 +345,7 @@ cell-returns-in_ok-value-in-More g t c =
     record {
       cell = rw c.in-More.is (c.cell_behind.ensures.cell
           ∙ (λ k. then_ok (values n (terms_in names (c.deref-in-More.ensures k)) s) (λ is. cell_at n x ((to_z-of_z w64 c.word-row.result fits ∙ c.word-row.ensures) k ∷ is)))
-          ∙ sym (first_known g.N.Number.numbers (value n (term_in names c.in-More.first.value) s) (values n (terms_in names c.in-More.rest.value) s) (λ is. cell_at n x is) c.in_ok-value-in-More.field-0 (c.in_ok-value-in-More.ensures.value ∙ ap (λ e. value n (term_in names e) s) c.deref.ensures)));
+          ∙ sym (first_known g.N.Number.numbers (value n (term_in names c.in-More.first.value) s) (values n (terms_in names c.in-More.rest.value) s) (λ is. cell_at n x is) c.in_ok-operand-in-More.field-0 (c.in_ok-operand-in-More.ensures.value ∙ ap (λ e. value n (term_in names e) s) c.deref.ensures)));
     }
 
 pub each_value-loop-current-preserved : goal.each_value-loop-current-preserved
@@ -369,27 +383,27 @@ value-returns-in_err-cell-in-Elem g _ c =
     let r = err_is c.from_residual.result t c.from_residual.ensures.1 in
     record { value = rw c.in-Elem.is (ap result_of r ∙ sym (chained_err (values n (terms_in names c.in-Elem.subs) s) (λ is. cell_at n x is) (λ k. Ok (s x k)) (trap_of t) c.in_err-cell-in-Elem.ensures.cell)) }
 
-pub cell-returns-in_err-value-in-More : goal.cell-returns-in_err-value-in-More
-cell-returns-in_err-value-in-More g _ c =
+pub cell-returns-in_err-operand-in-More : goal.cell-returns-in_err-operand-in-More
+cell-returns-in_err-operand-in-More g _ c =
     let names = c.args.self.now.names.now in
     let vs = c.args.self.now.slots.items in
     let n = setting_in_slots g.N.Number.numbers names vs in
     let s = store_in g.N.Number.numbers names vs in
     let x = var_at names c.args.i in
-    let t = c.in_err-value-in-More.field-0.0 in
+    let t = c.in_err-operand-in-More.field-0.0 in
     let r = err_is c.from_residual.result t c.from_residual.ensures.1 in
-    record { cell = rw c.in-More.is (ap result_of r ∙ sym (first_trap g.N.Number.numbers (value n (term_in names c.in-More.first.value) s) (values n (terms_in names c.in-More.rest.value) s) (λ is. cell_at n x is) (trap_of t) (c.in_err-value-in-More.ensures.value ∙ ap (λ e. value n (term_in names e) s) c.deref.ensures))) }
+    record { cell = rw c.in-More.is (ap result_of r ∙ sym (first_trap g.N.Number.numbers (value n (term_in names c.in-More.first.value) s) (values n (terms_in names c.in-More.rest.value) s) (λ is. cell_at n x is) (trap_of t) (c.in_err-operand-in-More.ensures.value ∙ ap (λ e. value n (term_in names e) s) c.deref.ensures))) }
 
-pub cell_behind-returns-in_err-value-in-More : goal.cell_behind-returns-in_err-value-in-More
-cell_behind-returns-in_err-value-in-More g _ c =
+pub cell_behind-returns-in_err-operand-in-More : goal.cell_behind-returns-in_err-operand-in-More
+cell_behind-returns-in_err-operand-in-More g _ c =
     let names = c.args.self.now.names.now in
     let vs = c.args.self.now.slots.items in
     let n = setting_in_slots g.N.Number.numbers names vs in
     let s = store_in g.N.Number.numbers names vs in
     let x = var_at names c.args.i in
-    let t = c.in_err-value-in-More.field-0.0 in
+    let t = c.in_err-operand-in-More.field-0.0 in
     let r = err_is c.from_residual.result t c.from_residual.ensures.1 in
-    record { cell = rw c.in-More.is (ap result_of r ∙ sym (first_trap g.N.Number.numbers (value n (term_in names c.in-More.second.value) s) (values n (terms_in names c.in-More.others.value) s) (λ is. cell_at n x (c.args.row ∷ is)) (trap_of t) (c.in_err-value-in-More.ensures.value ∙ ap (λ e. value n (term_in names e) s) c.deref.ensures))) }
+    record { cell = rw c.in-More.is (ap result_of r ∙ sym (first_trap g.N.Number.numbers (value n (term_in names c.in-More.second.value) s) (values n (terms_in names c.in-More.others.value) s) (λ is. cell_at n x (c.args.row ∷ is)) (trap_of t) (c.in_err-operand-in-More.ensures.value ∙ ap (λ e. value n (term_in names e) s) c.deref.ensures))) }
 
 pub each_value-returns-in_err-value : goal.each_value-returns-in_err-value
 each_value-returns-in_err-value g _ c =

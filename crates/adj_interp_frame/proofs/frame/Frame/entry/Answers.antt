@@ -1,9 +1,14 @@
 use Rattle.std.proofs.Common.{rules, ◌≡◌, ◌∷◌, ◌++◌, [], length, get_or, Err, sym, ap, subst, ◌∙◌, arith}
 use Rattle.std.proofs.lemmas.Grind.{common_steps}
 use Rattle.std.proofs.lemmas.List.{length-append}
+use Rattle.adj_tree.specs.Code.{Var}
+use Rattle.def_meaning.specs.Store.{Shape, Store}
 use Rattle.adj_interp_frame.specs.declared.entry.Unfit.TheVariants as why
+use Rattle.adj_interp_frame.specs.declared.slot.Slot.{Slot}
 use Rattle.adj_interp_frame.specs.Framed.{IsSlot}
+use Rattle.adj_interp_frame.specs.Shown.{Shows}
 use Rattle.adj_interp_frame.specs.Called.{actuals_in, IsEntered}
+use Rattle.adj_interp_frame.specs.Lent.{HasLender, IsFilled}
 use Rattle.adj_interp_frame.proofs.Failing.{err_is}
 use Rattle.adj_interp_frame.proofs.Entering.{entered_shown, pushed_each}
 use Rattle.adj_interp_frame.proofs.frame.Frame.entry.Goals as goal
@@ -14,28 +19,50 @@ loop-i-preserved g c =
     let i = c.loop-i.i in
     let slots = c.loop-i.slots.items in
     let v = c.in_ok-slot.slot in
+    let vs = c.args.self.now.slots.items in
+    let all = c.args.actuals.now in
+    let r = c.args.routine.now in
+    let names = c.args.self.now.names.now in
     let pushed : c.push.new.self.items ≡ c.loop-i.slots.items ++ c.in_ok-slot.slot ∷ [] = search rules in
     let n = inv.count in
     let longer = length-append slots (v ∷ []) in
     record {
       count = ap length pushed ∙ omega (arith, n, longer);
-      sized = λ k d lt. subst (λ xs. IsSlot (get_or xs k d)) (sym pushed) (pushed_each (λ k z. IsSlot z) slots v i n inv.sized c.in_ok-slot.ensures.sized k d lt);
-      entered = λ k d lt shape s h.
-          let got = actuals_in c.args.self.now.names.now shape s c.args.actuals.now in
-          subst (λ xs. IsEntered g.N.Number.numbers c.args.routine.now got k (get_or xs k d)) (sym pushed) (pushed_each (λ k z. IsEntered g.N.Number.numbers c.args.routine.now got k z) slots v i n (λ k d lt. inv.entered k d lt shape s h) (c.in_ok-slot.ensures.entered shape s h) k d lt);
+      lent = λ k d lt. subst (λ xs. (get_or xs k d).cells.items ≡ [] → HasLender r all k) (sym pushed) (pushed_each (λ k z. z.cells.items ≡ [] → HasLender r all k) slots v i n inv.lent c.in_ok-slot.ensures.lent k d lt);
+      sized = λ k d lt. subst (λ xs. (u : Slot _) → IsFilled vs all k (get_or xs k d) u → IsSlot u) (sym pushed) (pushed_each (λ k z. (u : Slot _) → IsFilled vs all k z u → IsSlot u) slots v i n inv.sized c.in_ok-slot.ensures.sized k d lt);
+      entered = λ k d lt. subst (λ xs. (u : Slot _) → IsFilled vs all k (get_or xs k d) u → (shape : Var → Shape) (s : Store _) → Shows g.N.Number.numbers names vs shape s → IsEntered g.N.Number.numbers r (actuals_in names shape s all) k u) (sym pushed)
+          (pushed_each (λ k z. (u : Slot _) → IsFilled vs all k z u → (shape : Var → Shape) (s : Store _) → Shows g.N.Number.numbers names vs shape s → IsEntered g.N.Number.numbers r (actuals_in names shape s all) k u) slots v i n inv.entered c.in_ok-slot.ensures.entered k d lt);
       fits = λ shape s h. inv.fits shape s h ∙ c.in_ok-slot.ensures.fits shape s h;
     }
 
-pub returns-clause-shown : goal.returns-clause-shown
-returns-clause-shown g c shape s h =
+pub returns-clause-lent : goal.returns-clause-lent
+returns-clause-lent g c k d lt = let n = c.loop-i.invariant.count in c.loop-i.invariant.lent k d (omega (arith, lt, n))
+
+pub returns-clause-framed : goal.returns-clause-framed
+returns-clause-framed g c us f =
     let inv = c.loop-i.invariant in
     let each : length c.args.routine.now.names ≡ length c.loop-i.slots.items = first_of (search rules, grind (arith, common_steps)) in
-    let count = inv.count in
-    entered_shown g.N.Number.numbers c.args.routine.now (actuals_in c.args.self.now.names.now shape s c.args.actuals.now) c.loop-i.slots.items c.requires.laid each (λ k d lt. inv.entered k d (omega (arith, lt, each, count)) shape s h)
+    let n = inv.count in
+    let m = f.count in
+    record {
+      apart = c.requires.laid.apart;
+      each = each ∙ sym f.count;
+      sized = λ k d lt. inv.sized k d (omega (arith, lt, n, m)) (get_or us k d) (f.each k d d (omega (arith, lt, m)));
+    }
+
+pub returns-clause-shown : goal.returns-clause-shown
+returns-clause-shown g c us f shape s h =
+    let inv = c.loop-i.invariant in
+    let each : length c.args.routine.now.names ≡ length c.loop-i.slots.items = first_of (search rules, grind (arith, common_steps)) in
+    let n = inv.count in
+    let m = f.count in
+    entered_shown g.N.Number.numbers c.args.routine.now (actuals_in c.args.self.now.names.now shape s c.args.actuals.now) us c.requires.laid (each ∙ sym f.count)
+    (λ k d lt. inv.entered k d (omega (arith, lt, each, n)) (get_or us k d) (f.each k d d (omega (arith, lt, each))) shape s h)
 
 pub returns-in_err-slot : goal.returns-in_err-slot
 returns-in_err-slot g c =
     rw (err_is c.from_residual-in_err-slot.result c.in_err-slot.field-0.0 c.from_residual-in_err-slot.ensures.1) (record {
+      lent = tt;
       framed = tt;
       shown = tt;
       fits = tt;
