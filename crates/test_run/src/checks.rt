@@ -2,17 +2,18 @@
 
 use crate::entries::{code_and_line, unit};
 use adj_data::{check_values, print_values};
-use adj_tree::{Head, Items, Memory};
+use adj_tree::{Head, Items, Memory, boxed};
 use std::alloc::Global;
 use std::test::Fail;
 
 // A is independent, and K dependent.
-fn head(alloc: Global) -> Result<Head, Memory> {
-    Ok(Head {
+fn head(alloc: Global) -> Result<Box<Head>, Memory> {
+    let head = Head {
         unit: 0,
         vars: Items::new(vec![in alloc; true, false, false]?),
         outvars: Items::new(vec![in alloc; false, false, true]?),
-    })
+    };
+    boxed(alloc, head)
 }
 
 #[test]

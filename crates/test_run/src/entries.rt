@@ -1,7 +1,7 @@
 //! Data and their faults.
 
 use adj_data::{DataError, print_values, values};
-use adj_tree::{Decl, Extent, Extents, Items, Memory, Name, Stmts, Unit};
+use adj_tree::{Decl, Extent, Extents, Items, Memory, Name, Stmts, Unit, boxed};
 use std::alloc::Global;
 use std::test::Fail;
 
@@ -19,7 +19,7 @@ fn decl(alloc: Global, text: &str, extents: Vec<Extent>) -> Result<Decl, Memory>
 }
 
 // SUBROUTINE P(A,N,K) with INTEGER*8 A(N,2),N,K.
-pub(crate) fn unit(alloc: Global) -> Result<Unit, Memory> {
+pub(crate) fn unit(alloc: Global) -> Result<Box<Unit>, Memory> {
     let extents = vec![in alloc; Extent::Dummy(name(alloc, "N")?), Extent::Lit(2)]?;
     let decls = vec![in alloc;
         decl(alloc, "A", extents)?,
@@ -27,14 +27,15 @@ pub(crate) fn unit(alloc: Global) -> Result<Unit, Memory> {
         decl(alloc, "K", Vec::new(alloc))?,
     ]?;
     let dummies = vec![in alloc; name(alloc, "A")?, name(alloc, "N")?, name(alloc, "K")?]?;
-    Ok(Unit {
+    let unit = Unit {
         line: 1,
         name: name(alloc, "P")?,
         dummies: Items::new(dummies),
         none: false,
         decls: Items::new(decls),
         body: Stmts::Empty,
-    })
+    };
+    boxed(alloc, unit)
 }
 
 #[test]

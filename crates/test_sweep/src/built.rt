@@ -9,7 +9,7 @@ use adj_parse::program;
 use adj_print::text;
 use adj_sets::{NameSet, add_texts};
 use adj_sweep::callees::{Callee, Callees, Dummy};
-use adj_tree::{Fault, Items, Memory, Name, Program, Stmts, Unit};
+use adj_tree::{Fault, Items, Memory, Name, Program, Stmts, Unit, boxed};
 use std::alloc::Global;
 
 /// A program whose one unit has these statements.
@@ -58,32 +58,44 @@ pub(crate) struct Called<'a> {
     pub helper_names: &'a [&'a [u8]],
 }
 
-pub(crate) fn names(alloc: Global, called: &Called) -> Result<Names, Memory> {
+pub(crate) fn names(alloc: Global, called: &Called) -> Result<Box<Names>, Memory> {
     let variables = Items::new(listed(alloc, called.variables)?);
     let shadowed = set_of(alloc, called.variables)?;
     let shadows = Items::new(listed(alloc, called.shadows)?);
     let helpers = helper_set_of(alloc, called.helpers)?;
     let helper_names = Items::new(listed(alloc, called.helper_names)?);
-    Ok(Names {
+    let names = Names {
         variables,
         shadowed,
         shadows,
         helpers,
         helper_names,
-    })
+    };
+    boxed(alloc, names)
 }
 
 /// No unit is known.
-pub(crate) fn no_callees(alloc: Global) -> Result<Callees, Memory> {
-    Ok(Callees {
-        names: NameSet::new(alloc)?,
+pub(crate) fn no_callees(alloc: Global) -> Result<Box<Callees>, Memory> {
+    let names = NameSet::new(alloc)?;
+    let other = callee(alloc, b"", Vec::new(alloc))?;
+    let callees = Callees {
+        names,
         known: Vec::new(alloc),
-        other: Callee {
-            adjoint: name(alloc, b"")?,
-            forth: name(alloc, b"")?,
-            back: name(alloc, b"")?,
-            dummies: Vec::new(alloc),
-        },
+        other,
+    };
+    boxed(alloc, callees)
+}
+
+// A unit with this adjoint, which isn't split.
+fn callee(alloc: Global, adjoint: &[u8], dummies: Vec<Dummy>) -> Result<Callee, Memory> {
+    let adjoint = name(alloc, adjoint)?;
+    let forth = name(alloc, b"")?;
+    let back = name(alloc, b"")?;
+    Ok(Callee {
+        adjoint,
+        forth,
+        back,
+        dummies,
     })
 }
 
@@ -93,19 +105,11 @@ pub(crate) fn one_callee(
     unit: &[u8],
     adjoint: &[u8],
     dummies: &[Dummy],
-) -> Result<Callees, Memory> {
+) -> Result<Box<Callees>, Memory> {
+    let known = callee(alloc, adjoint, Vec::from_slice(alloc, dummies)?)?;
     let mut callees = no_callees(alloc)?;
+    callees.known.push(known)?;
     callees.names = set_of(alloc, &[unit])?;
-    let mut known = Vec::new(alloc);
-    for dummy in dummies {
-        known.push(*dummy)?;
-    }
-    callees.known.push(Callee {
-        adjoint: name(alloc, adjoint)?,
-        forth: name(alloc, b"")?,
-        back: name(alloc, b"")?,
-        dummies: known,
-    })?;
     Ok(callees)
 }
 

@@ -8,7 +8,7 @@ use adj_sweep::callees::{Callees, Dummy};
 use adj_sweep::plan::Plan;
 use adj_sweep::steps::MarkedLoops;
 use adj_sweep_assignment::Marking;
-use adj_tree::{Fault, Memory, Stmts};
+use adj_tree::{Fault, Memory, Stmts, boxed};
 use std::alloc::Global;
 
 // The scalars X, Y and I are the variables, and there are an IF and a loop.
@@ -33,7 +33,7 @@ fn adjoint_of(
     statements: &Stmts,
 ) -> Result<Stmts, Memory> {
     let names = names(alloc, called)?;
-    let arrays = NameSet::new(alloc)?;
+    let arrays = boxed(alloc, NameSet::new(alloc)?)?;
     let marks: Marking<'static> = Marking::Full;
     let plan = Plan {
         names: &names,
@@ -121,10 +121,10 @@ fn each_body_has_its_adjoint(rt: HostRuntime) -> Result<(), Fault> {
     Ok(())
 }
 
-// Both bodies that are made of a body for split calls, where Y and I are left on the tape.
-fn pair_of(alloc: Global, statements: &Stmts) -> Result<(Stmts, Stmts), Memory> {
+// Whether these lines are the forward and the backward body that are made of a body for split calls, where Y and I are left on the tape.
+fn is_pair(alloc: Global, statements: &Stmts, forth: &str, back: &str) -> Result<bool, Memory> {
     let names = names(alloc, &SCALARS)?;
-    let arrays = NameSet::new(alloc)?;
+    let arrays = boxed(alloc, NameSet::new(alloc)?)?;
     let callees = no_callees(alloc)?;
     let marks: Marking<'static> = Marking::Full;
     let plan = Plan {
@@ -141,9 +141,9 @@ fn pair_of(alloc: Global, statements: &Stmts) -> Result<(Stmts, Stmts), Memory> 
         line: 1,
         left: left.as_slice(),
     };
-    let forth = plan.forth_body(alloc, &body)?;
-    let back = plan.back_body(alloc, &body)?;
-    Ok((forth, back))
+    let forward = is_text(alloc, plan.forth_body(alloc, &body)?, forth)?;
+    let backward = is_text(alloc, plan.back_body(alloc, &body)?, back)?;
+    Ok(forward && backward)
 }
 
 // What is pushed at the end of the forward body is popped at the beginning of the backward one, in the opposite order.
@@ -184,9 +184,7 @@ fn a_body_has_a_forward_and_a_backward_body(rt: HostRuntime) -> Result<(), Fault
     let alloc = rt.alloc();
     let program = read(alloc, PAIRED)?;
     for unit in program.units.as_slice() {
-        let (forth, back) = pair_of(alloc, &unit.body)?;
-        assert!(rt; is_text(alloc, forth, FORTH)?);
-        assert!(rt; is_text(alloc, back, BACK)?);
+        assert!(rt; is_pair(alloc, &unit.body, FORTH, BACK)?);
     }
     Ok(())
 }

@@ -3,7 +3,7 @@
 use crate::read::read;
 use adj_fixed::Mode;
 use adj_symbols::{check, head};
-use adj_tree::{Memory, Name};
+use adj_tree::{Fault, Head, Memory, Name, boxed};
 use std::alloc::Global;
 use std::test::Fail;
 
@@ -19,15 +19,19 @@ fn named(alloc: Global, text: &str) -> Result<Name, Memory> {
     Name::from_slice(alloc, text.as_bytes())
 }
 
-#[test]
-fn a_program_is_checked_and_its_head_found(rt: HostRuntime) -> Result<(), Fail> {
-    let alloc = rt.alloc();
+// The head G, with K independent and L dependent.
+fn found(alloc: Global) -> Result<Head, Fault> {
     let program = read(alloc, TWO_UNITS, Mode::Source)?;
-    let checked = check(alloc, program, Mode::Source)?;
+    let checked = boxed(alloc, check(alloc, program, Mode::Source)?)?;
     let name = named(alloc, "G")?;
     let first = named(alloc, "K")?;
     let second = named(alloc, "L")?;
-    let found = head(alloc, &checked, &name, &[first], &[second])?;
+    head(alloc, &checked, &name, &[first], &[second])
+}
+
+#[test]
+fn a_program_is_checked_and_its_head_found(rt: HostRuntime) -> Result<(), Fail> {
+    let found = found(rt.alloc())?;
     assert_eq!(rt; found.unit, 1);
     assert_eq!(rt; found.vars.as_slice(), [true, false].as_slice());
     assert_eq!(rt; found.outvars.as_slice(), [false, true].as_slice());

@@ -201,20 +201,37 @@ fn code_of(alloc: Global, text: &str, mode: Mode) -> u8 {
     }
 }
 
+// The codes of texts with a name of so many letters: in a statement, as a number of snapshots, and in a directive before no DO.
+fn codes(alloc: Global, len: usize, mode: Mode) -> Result<[u8; 3], AllocError> {
+    let name = "A".repeat(alloc, len)?;
+    let used = code_of(
+        alloc,
+        &format!(in alloc; "      IF(X)Y=\n     1{name}")?,
+        mode,
+    );
+    let marked = format!(in alloc; "C$AD BINOMIAL-CKP {name}\n      DOI=1,2")?;
+    let stray = format!(in alloc; "C$AD BINOMIAL-CKP {name}\n      X=1")?;
+    Ok([
+        used,
+        code_of(alloc, &marked, mode),
+        code_of(alloc, &stray, mode),
+    ])
+}
+
 #[test]
 fn names_are_limited_by_mode(rt: HostRuntime) -> Result<(), Fail> {
     for case in &[(31, 0, 0), (32, 6, 0), (63, 6, 0), (64, 6, 6)] {
         let (len, source, run) = *case;
-        let name = "A".repeat(rt.alloc(), len)?;
-        let used = format!(in rt.alloc(); "      IF(X)Y=\n     1{name}")?;
-        let marked = format!(in rt.alloc(); "C$AD BINOMIAL-CKP {name}\n      DOI=1,2")?;
-        let stray = format!(in rt.alloc(); "C$AD BINOMIAL-CKP {name}\n      X=1")?;
-        for case in &[(Mode::Source, source), (Mode::Run, run)] {
-            let (mode, want) = *case;
-            assert_eq!(rt; code_of(rt.alloc(), &used, mode), want, "at {len}");
-            assert_eq!(rt; code_of(rt.alloc(), &marked, mode), want, "at {len}");
-            assert_eq!(rt; code_of(rt.alloc(), &stray, mode), 0, "at {len}");
-        }
+        assert_eq!(rt;
+            codes(rt.alloc(), len, Mode::Source)?,
+            [source, source, 0],
+            "at {len}"
+        );
+        assert_eq!(rt;
+            codes(rt.alloc(), len, Mode::Run)?,
+            [run, run, 0],
+            "at {len}"
+        );
     }
     Ok(())
 }
