@@ -12,11 +12,20 @@ use adj_tree::{Common, Memory, Name, SharedUnit};
 use std::alloc::Global;
 
 /// The blocks of a text in the order of their first statements, with the names and the units of all COMMON statements.
-#[derive(Drop)]
 pub(crate) struct Blocks<'a> {
     pub table: ByName,
     pub names: Vec<&'a Name>,
     pub owners: Vec<usize>,
+}
+
+impl Drop for Blocks<'_> {
+    fn drop(self) {
+        let Blocks {
+            table: _table,
+            names: _names,
+            owners: _owners,
+        } = self;
+    }
 }
 
 // Adds the blocks of a unit's COMMON statements.

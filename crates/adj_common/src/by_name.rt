@@ -10,10 +10,18 @@ use std::alloc::Global;
 use std::marker::Model;
 
 /// Names, each once in the order in which they first stand, and the places of each.
-#[derive(Drop)]
 pub(crate) struct ByName {
     names: NameSet,
     rows: Vec<Vec<usize>>,
+}
+
+impl Drop for ByName {
+    fn drop(self) {
+        let ByName {
+            names: _names,
+            rows: _rows,
+        } = self;
+    }
 }
 
 impl Model for ByName {

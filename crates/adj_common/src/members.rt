@@ -13,13 +13,24 @@ use adj_tree::{Common, Decl, Extents, Items, Memory, Name};
 use std::alloc::Global;
 
 /// A member of a block in a unit: its name there, its extents, those that the COMMON item gives, its line, and whether the unit declares the block.
-#[derive(Drop)]
 pub(crate) struct Member {
     pub name: Name,
     pub extents: Extents,
     pub item: Extents,
     pub line: u32,
     pub own: bool,
+}
+
+impl Drop for Member {
+    fn drop(self) {
+        let Member {
+            name: _name,
+            extents: _extents,
+            item: _item,
+            line: _,
+            own: _,
+        } = self;
+    }
 }
 
 impl Member {
@@ -45,7 +56,7 @@ fn extents_in(alloc: Global, declared: &Declared, item: &Decl) -> Result<Extents
     if found.extents.as_slice().is_empty() {
         copied(alloc, item.extents.as_slice())
     } else {
-        Ok(found.extents)
+        Ok(found.into_extents())
     }
 }
 

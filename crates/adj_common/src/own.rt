@@ -14,12 +14,22 @@ use adj_tree::{Common, Memory, Name, SharedUnit};
 use std::alloc::Global;
 
 /// The members of each block that a unit declares, and the line of its last statement of the block.
-#[derive(Drop)]
 pub(crate) struct Own {
     pub declared: Declared,
     pub table: ByName,
     pub groups: Vec<Vec<Member>>,
     pub lines: Vec<u32>,
+}
+
+impl Drop for Own {
+    fn drop(self) {
+        let Own {
+            declared: _declared,
+            table: _table,
+            groups: _groups,
+            lines: _lines,
+        } = self;
+    }
 }
 
 /// The names of the blocks of COMMON statements, in order.

@@ -42,8 +42,7 @@ fn units_alone(alloc: Global, units: Vec<SharedUnit>) -> Result<Vec<Unit>, Memor
 {
     let mut out = Vec::new(alloc);
     for shared in units {
-        let SharedUnit { unit, commons: _ } = shared;
-        out.push(unit)?;
+        out.push(shared.into_unit())?;
     }
     Ok(out)
 }
@@ -117,7 +116,7 @@ fn lower(alloc: Global, units: &[SharedUnit]) -> Result<Vec<Unit>, Fault>
 pub fn lower_common(alloc: Global, program: SharedProgram) -> Result<Program, Fault>
     ensures lowered { Gives procedures_of result (without_blocks (shared_units_of program)) }
 {
-    let SharedProgram { units } = program;
+    let units = program.into_units();
     if has_none(units.as_slice()) {
         let made = units_alone(alloc, units.into_vec())?;
         return Ok(Program {

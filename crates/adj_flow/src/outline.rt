@@ -19,10 +19,18 @@ use crate::way::{Point, Way};
 use adj_tree::{Act, Exprs, Mark, Memory, Name, Stmts};
 
 /// Statements and ways.
-#[derive(Drop)]
 pub struct Outline<'a> {
     pub statements: Vec<Standing<'a>>,
     pub ways: Vec<Way<'a>>,
+}
+
+impl Drop for Outline<'_> {
+    fn drop(self) {
+        let Outline {
+            statements: _statements,
+            ways: _ways,
+        } = self;
+    }
 }
 
 /// Adds the statements of a list and those in them, and the ways of the list: `from` leads to its first point, and its last point to `to`, on which `last` is done.

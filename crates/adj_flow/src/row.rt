@@ -13,7 +13,6 @@ use adj_tree::{Name, NameList, Unit};
 
 /// A unit with the numbers of itself, of its first statement and of its points of entry and end; with its statements and ways;
 /// and with its variables and their places among them. Numbers of points are below 5 * 2^30, all others below 2^30.
-#[derive(Drop)]
 pub struct Part<'a> {
     pub number: usize,
     pub unit: &'a Unit,
@@ -30,6 +29,22 @@ pub struct Part<'a> {
     pub ghost entry_low: { entry < 5 * 2 ^ 30 },
     pub ghost end_low: { end < 5 * 2 ^ 30 },
     pub ghost narrow: { length variables.now < 2 ^ 30 },
+}
+
+impl Drop for Part<'_> {
+    fn drop(self) {
+        let Part {
+            number: _,
+            unit: _,
+            first: _,
+            entry: _,
+            end: _,
+            statements: _statements,
+            ways: _ways,
+            variables: _,
+            places: _places,
+        } = self;
+    }
 }
 
 impl Part<'_> {

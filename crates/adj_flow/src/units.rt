@@ -22,7 +22,6 @@ use std::alloc::Global;
 
 /// The units of a program with their numbers by name, which of them take part, an upper bound on the variables of a unit, and which
 /// calls are to be split, by number.
-#[derive(Drop)]
 pub struct Flow<'a> {
     pub parts: Vec<Part<'a>>,
     pub numbers: Numbers<'a>,
@@ -31,6 +30,18 @@ pub struct Flow<'a> {
     pub split: Flags,
     pub ghost few: { length parts.items < 2 ^ 30 },
     pub ghost narrow: { width < 2 ^ 30 },
+}
+
+impl Drop for Flow<'_> {
+    fn drop(self) {
+        let Flow {
+            parts: _parts,
+            numbers: _numbers,
+            taking: _taking,
+            width: _,
+            split: _split,
+        } = self;
+    }
 }
 
 // The most variables that a unit has.

@@ -14,12 +14,22 @@ const NEAR: u64 = 64;
 
 /// The actions of a schedule that come behind those that were given, seen as the schedule. An action far from these is
 /// found without it.
-#[derive(Drop)]
 pub struct Cursor {
     steps: u64,
     snapshots: u32,
     given: u64,
     rest: Schedule,
+}
+
+impl Drop for Cursor {
+    fn drop(self) {
+        let Cursor {
+            steps: _,
+            snapshots: _,
+            given: _,
+            rest: _rest,
+        } = self;
+    }
 }
 
 impl Model for Cursor {

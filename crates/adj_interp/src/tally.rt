@@ -24,12 +24,22 @@ pub struct Reversal {
 /// The reversals that are open, and what was counted: reversals that began, calls in those that ended less their steps,
 /// and the greatest number of words above a reversal's start at a call directly in it. It is seen with the innermost
 /// reversal first.
-#[derive(Drop)]
 pub struct Tally {
     begun: Vec<Reversal>,
     reversals: u64,
     advances: u64,
     height: u64,
+}
+
+impl Drop for Tally {
+    fn drop(self) {
+        let Tally {
+            begun: _begun,
+            reversals: _,
+            advances: _,
+            height: _,
+        } = self;
+    }
 }
 
 impl Model for Tally {

@@ -11,10 +11,18 @@ use adj_tree::{Memory, Name, Unit};
 use std::alloc::Global;
 
 /// The units of a program and numbers for their names. Names that no unit has get numbers behind them.
-#[derive(Drop)]
 pub struct Directory<'a> {
     pub units: &'a [Unit],
     pub numbers: Numbering<'a>,
+}
+
+impl Drop for Directory<'_> {
+    fn drop(self) {
+        let Directory {
+            units: _,
+            numbers: _numbers,
+        } = self;
+    }
 }
 
 impl<'a> Directory<'a> {

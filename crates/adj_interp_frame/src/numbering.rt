@@ -10,9 +10,14 @@ use std::alloc::Global;
 use std::marker::Model;
 
 /// Different names in the order in which they came, seen as their list. The number of a name is its place.
-#[derive(Drop)]
 pub struct Numbering<'a> {
     names: IndexSet<&'a [u8]>,
+}
+
+impl Drop for Numbering<'_> {
+    fn drop(self) {
+        let Numbering { names: _names } = self;
+    }
 }
 
 impl<'a> Model for Numbering<'a> {

@@ -11,14 +11,21 @@ use adj_tree::Name;
 use std::mem;
 
 /// A scalar or an element: its variable and its subscripts.
-#[derive(Drop)]
 pub struct Cell {
     pub variable: usize,
     pub subs: Terms,
 }
 
+impl Drop for Cell {
+    fn drop(self) {
+        let Cell {
+            variable: _,
+            subs: _subs,
+        } = self;
+    }
+}
+
 /// A call of the runtime. docs/RUNNING.md says what each does.
-#[derive(Drop)]
 pub enum Service {
     PushWord(Cell),
     PopWord(Cell),
@@ -36,25 +43,60 @@ pub enum Service {
     End,
 }
 
+impl Drop for Service {
+    fn drop(self) {
+        match self {
+            Service::PushWord(_part) => {}
+            Service::PopWord(_part) => {}
+            Service::PushArray(_) => {}
+            Service::PopArray(_) => {}
+            Service::PushControl(_part) => {}
+            Service::PopControl(_) => {}
+            Service::Zero(_) => {}
+            Service::Begin(_part0, _part1) => {}
+            Service::Actions(_part0, _part1, _) => {}
+            Service::Action(_part0, _part1, _part2, _, _, _) => {}
+            Service::End => {}
+        }
+    }
+}
+
 /// First value, limit and step of a DO.
-#[derive(Drop)]
 pub struct Bounds {
     pub first: Term,
     pub last: Term,
     pub by: Term,
 }
 
+impl Drop for Bounds {
+    fn drop(self) {
+        let Bounds {
+            first: _first,
+            last: _last,
+            by: _by,
+        } = self;
+    }
+}
+
 /// With how many snapshots a DO is marked.
-#[derive(Drop)]
 pub enum Marking {
     Plain,
     Count(u32),
     From(usize),
 }
 
+impl Drop for Marking {
+    fn drop(self) {
+        match self {
+            Marking::Plain => {}
+            Marking::Count(_) => {}
+            Marking::From(_) => {}
+        }
+    }
+}
+
 /// What a statement does.
 #[cycle(step)]
-#[derive(Drop)]
 pub enum Task {
     Assign(Cell, Term),
     If(Test, Steps, Steps),
@@ -67,12 +109,35 @@ pub enum Task {
     Run(Service),
 }
 
+impl Drop for Task {
+    #[cycle(step)]
+    fn drop(self) {
+        match self {
+            Task::Assign(_part0, _part1) => {}
+            Task::If(_part0, _part1, _part2) => {}
+            Task::Loop(_, _part1, _part2, _part3) => {}
+            Task::While(_part0, _part1) => {}
+            Task::Call(_, _part1, _part2) => {}
+            Task::Run(_part) => {}
+        }
+    }
+}
+
 /// A statement with its line in the text.
 #[cycle(step)]
-#[derive(Drop)]
 pub struct Step {
     pub line: u32,
     pub task: Task,
+}
+
+impl Drop for Step {
+    #[cycle(step)]
+    fn drop(self) {
+        let Step {
+            line: _,
+            task: _task,
+        } = self;
+    }
 }
 
 /// Statements in order, as a linked list.

@@ -10,7 +10,6 @@ use std::mem;
 
 /// An expression.
 #[cycle(term)]
-#[derive(Drop)]
 pub enum Term {
     Lit(i64),
     Var(usize),
@@ -23,6 +22,22 @@ pub enum Term {
     /// A power whose exponent is an expression.
     Power(Box<Term>, Box<Term>),
     Abs(Box<Term>),
+}
+
+impl Drop for Term {
+    #[cycle(term)]
+    fn drop(self) {
+        match self {
+            Term::Lit(_) => {}
+            Term::Var(_) => {}
+            Term::Elem(_, _part1) => {}
+            Term::Neg(_part) => {}
+            Term::Bin(_, _part1, _part2) => {}
+            Term::Pow(_part0, _) => {}
+            Term::Power(_part0, _part1) => {}
+            Term::Abs(_part) => {}
+        }
+    }
 }
 
 /// Expressions in order, as a linked list.
@@ -64,10 +79,20 @@ impl Drop for Terms {
 }
 
 /// A condition.
-#[derive(Drop)]
 pub enum Test {
     Cmp(Rel, Box<Term>, Box<Term>),
     Not(Box<Test>),
     And(Box<Test>, Box<Test>),
     Or(Box<Test>, Box<Test>),
+}
+
+impl Drop for Test {
+    fn drop(self) {
+        match self {
+            Test::Cmp(_, _part1, _part2) => {}
+            Test::Not(_part) => {}
+            Test::And(_part0, _part1) => {}
+            Test::Or(_part0, _part1) => {}
+        }
+    }
 }

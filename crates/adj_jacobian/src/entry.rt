@@ -15,15 +15,29 @@ pub struct Entry {
 pub type Entries = Items<Entry>;
 
 /// A derivative by its entries, by row and then column.
-#[derive(Drop)]
 pub struct Jacobian {
     pub entries: Entries,
 }
 
+impl Drop for Jacobian {
+    fn drop(self) {
+        let Jacobian { entries: _entries } = self;
+    }
+}
+
 /// A derivative with its pattern and the groups of its columns.
-#[derive(Drop)]
 pub struct Derivative {
     pub sparsity: Sparsity,
     pub grouping: Grouping,
     pub jacobian: Jacobian,
+}
+
+impl Drop for Derivative {
+    fn drop(self) {
+        let Derivative {
+            sparsity: _sparsity,
+            grouping: _grouping,
+            jacobian: _jacobian,
+        } = self;
+    }
 }

@@ -27,9 +27,14 @@ pub(crate) trait Start<N: Number> {
 }
 
 /// Those of the block of a number, with their bit.
-#[derive(Drop)]
 pub(crate) struct InBlock {
     pub(crate) block: u64,
+}
+
+impl Drop for InBlock {
+    fn drop(self) {
+        let InBlock { block: _ } = self;
+    }
 }
 
 /// Each with itself.

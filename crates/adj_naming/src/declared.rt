@@ -9,11 +9,19 @@ use adj_tree::{Decl, Items, Memory, Name, Unit};
 use std::alloc::Global;
 
 /// The first declaration of each variable of a unit, in order. Look-ups take constant time.
-#[derive(Drop)]
 pub struct Declared {
     pub names: NameSet,
     pub firsts: Vec<Decl>,
     pub ghost alike: { names ≡ map (λ d. d.name) firsts.items },
+}
+
+impl Drop for Declared {
+    fn drop(self) {
+        let Declared {
+            names: _names,
+            firsts: _firsts,
+        } = self;
+    }
 }
 
 /// The first declaration of each variable of a unit.

@@ -13,9 +13,14 @@ use std::alloc::Global;
 use std::marker::Model;
 
 /// Helpers in the order in which they came, none of them twice, seen as their list. Look-ups take constant time.
-#[derive(Drop)]
 pub struct HelperSet {
     helpers: IndexSet<Helper>,
+}
+
+impl Drop for HelperSet {
+    fn drop(self) {
+        let HelperSet { helpers: _helpers } = self;
+    }
 }
 
 impl Model for HelperSet {

@@ -14,13 +14,24 @@ use std::alloc::Global;
 
 /// The names of one emitted unit: its own variables, the shadows of those that have one and the helpers, each list in the order
 /// of its names. What the unit doesn't have gets a name that no text has. Look-ups take constant time.
-#[derive(Drop)]
 pub struct Names {
     pub variables: NameList,
     pub shadowed: NameSet,
     pub shadows: NameList,
     pub helpers: HelperSet,
     pub helper_names: NameList,
+}
+
+impl Drop for Names {
+    fn drop(self) {
+        let Names {
+            variables: _variables,
+            shadowed: _shadowed,
+            shadows: _shadows,
+            helpers: _helpers,
+            helper_names: _helper_names,
+        } = self;
+    }
 }
 
 impl Names {

@@ -12,10 +12,18 @@ use std::alloc::Global;
 use std::marker::Model;
 
 /// Names that are taken, seen as their list: some that stand in a set that several units share, and others of a unit's own.
-#[derive(Drop)]
 pub struct Taken<'a> {
     shared: &'a NameSet,
     own: NameSet,
+}
+
+impl Drop for Taken<'_> {
+    fn drop(self) {
+        let Taken {
+            shared: _,
+            own: _own,
+        } = self;
+    }
 }
 
 impl<'a> Model for Taken<'a> {

@@ -93,7 +93,7 @@ fn keep(alloc: Global, stmt: &Stmt, out: &mut Vec<Stmt>) -> Result<(), Memory>
     ensures written { OnOk result (Writes out.old.items out.new.items (one stmt.now.line (act_of stmt.now.act))) }
 {
     let same = stmt.copy(alloc)?;
-    write(same.line, same.act, out)
+    write(stmt.line, same.into_act(), out)
 }
 
 // Writes a statement whose marked loops hold the calls of their step units, where marked loops stand before it.

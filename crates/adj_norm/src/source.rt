@@ -131,7 +131,7 @@ fn step_declaration(alloc: Global, line: u32, declared: &Declared, x: &Name) -> 
     Ok(Decl {
         line,
         name,
-        extents: decl.extents,
+        extents: decl.into_extents(),
     })
 }
 

@@ -15,10 +15,18 @@ use adj_tree::{Flags, Head, Memory};
 use std::alloc::Global;
 
 /// Which variables of units carry a tangent, and the flow over which their flags are numbered.
-#[derive(Drop)]
 pub struct CarriedFlow<'c> {
     pub flow: Flow<'c>,
     pub carried: Flags,
+}
+
+impl Drop for CarriedFlow<'_> {
+    fn drop(self) {
+        let CarriedFlow {
+            flow: _flow,
+            carried: _carried,
+        } = self;
+    }
 }
 
 /// Which variables of a checked program that fits carry a tangent, for a head.

@@ -22,10 +22,18 @@ use adj_tree::{Head, Marks, Memory};
 use std::alloc::Global;
 
 /// The marks of a program, and its flow, over which their flags are numbered.
-#[derive(Drop)]
 pub struct Planned<'c> {
     pub flow: Flow<'c>,
     pub marks: Marks,
+}
+
+impl Drop for Planned<'_> {
+    fn drop(self) {
+        let Planned {
+            flow: _flow,
+            marks: _marks,
+        } = self;
+    }
 }
 
 /// The flow of a checked program that fits, for the head of a number, where the calls at these lines are to be split.

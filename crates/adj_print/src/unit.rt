@@ -85,7 +85,7 @@ fn push_last(
     ensures lines { OnOk result (out.new.items ≡ out.old.items ++ procedure_text (procedure_of unit)) }
 {
     push_opening(chars, out, &unit)?;
-    push_each(alloc, chars, out, unit.body)?;
+    push_each(alloc, chars, out, unit.into_body())?;
     push_statement(out, b"END")
 }
 
@@ -115,7 +115,7 @@ pub fn into_text(alloc: Global, p: Program) -> Result<Vec<u8>, Memory>
 {
     let mut chars = Vec::new(alloc);
     let mut out = Vec::new(alloc);
-    for unit in p.units.into_vec() {
+    for unit in p.into_units().into_vec() {
         push_last(alloc, &mut chars, &mut out, unit)?;
     }
     Ok(out)

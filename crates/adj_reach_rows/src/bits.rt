@@ -7,12 +7,21 @@ use adj_tree::Memory;
 use std::alloc::Global;
 
 /// Rows of bits, each of so many words, one behind the other.
-#[derive(Drop)]
 pub struct Rows {
     pub count: usize,
     pub words: usize,
     pub bits: Vec<u64>,
     pub ghost full: { vec_len bits ≡ count * words },
+}
+
+impl Drop for Rows {
+    fn drop(self) {
+        let Rows {
+            count: _,
+            words: _,
+            bits: _bits,
+        } = self;
+    }
 }
 
 impl Rows {

@@ -37,11 +37,20 @@ pub(crate) enum Pending {
 }
 
 /// The actions of a schedule that were not given yet. It takes no memory, however many steps there are.
-#[derive(Drop)]
 pub struct Schedule {
     slots: u32,
     frames: ArrayVec<Frame, MOST>,
     pending: Pending,
+}
+
+impl Drop for Schedule {
+    fn drop(self) {
+        let Schedule {
+            slots: _,
+            frames: _frames,
+            pending: _pending,
+        } = self;
+    }
 }
 
 impl Model for Schedule {

@@ -12,9 +12,14 @@ use std::alloc::Global;
 use std::marker::Model;
 
 /// Names in the order in which they came, none of them twice, seen as their list. Look-ups take constant time, and no text is copied.
-#[derive(Drop)]
 pub struct BorrowedNames<'a> {
     names: Box<IndexSet<&'a [u8]>>,
+}
+
+impl Drop for BorrowedNames<'_> {
+    fn drop(self) {
+        let BorrowedNames { names: _names } = self;
+    }
 }
 
 impl<'a> Model for BorrowedNames<'a> {

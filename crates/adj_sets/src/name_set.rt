@@ -11,9 +11,14 @@ use std::alloc::Global;
 use std::marker::Model;
 
 /// Names in the order in which they came, none of them twice, seen as their list. Look-ups take constant time.
-#[derive(Drop)]
 pub struct NameSet {
     texts: Box<IndexSet<Vec<u8>>>,
+}
+
+impl Drop for NameSet {
+    fn drop(self) {
+        let NameSet { texts: _texts } = self;
+    }
 }
 
 impl Model for NameSet {

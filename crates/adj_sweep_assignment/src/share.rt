@@ -10,7 +10,6 @@ use adj_tree::{Expr, Exprs, Memory, Name, Op, boxed};
 use std::alloc::Global;
 
 /// The derivative of a term by an operand, which the adjoint of the term is multiplied by.
-#[derive(Drop)]
 pub enum Factor {
     /// -1.
     Opposite,
@@ -20,6 +19,17 @@ pub enum Factor {
     Power(Box<Expr>, u32),
     /// That of a power whose exponent is an expression.
     PowerBy(Box<Expr>, Box<Expr>),
+}
+
+impl Drop for Factor {
+    fn drop(self) {
+        match self {
+            Factor::Opposite => {}
+            Factor::Value(_part) => {}
+            Factor::Power(_part0, _) => {}
+            Factor::PowerBy(_part0, _part1) => {}
+        }
+    }
 }
 
 /// What becomes of the adjoint of a term, which stands in a work variable.

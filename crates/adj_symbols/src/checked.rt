@@ -25,7 +25,6 @@ const MOST: usize = 1 << 30;
 
 /// A program that is written and in which no name, call, chain or write is refused where it is run, with the variables of each
 /// unit and the dummies that each unit writes and reads.
-#[derive(Drop)]
 pub struct Checked {
     program: Program,
     variables: Vec<NameList>,
@@ -34,6 +33,19 @@ pub struct Checked {
     // How many statements there are, and how many variables a unit has at most.
     statements: usize,
     width: usize,
+}
+
+impl Drop for Checked {
+    fn drop(self) {
+        let Checked {
+            program: _program,
+            variables: _variables,
+            writes: _writes,
+            reads: _reads,
+            statements: _,
+            width: _,
+        } = self;
+    }
 }
 
 impl Model for Checked {

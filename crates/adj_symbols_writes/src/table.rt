@@ -11,9 +11,14 @@ use std::alloc::Global;
 use std::marker::Model;
 
 /// A number for each of some different names, seen as their list in the order in which they were added.
-#[derive(Drop)]
 pub struct Numbers<'a> {
     numbers: IndexMap<&'a [u8], usize>,
+}
+
+impl Drop for Numbers<'_> {
+    fn drop(self) {
+        let Numbers { numbers: _numbers } = self;
+    }
 }
 
 impl<'a> Model for Numbers<'a> {

@@ -16,10 +16,18 @@ use adj_weave_units::found::{ends_of, fits};
 use std::alloc::Global;
 
 /// By the places of units: those whose tangent is emitted, and those that are emitted as they are.
-#[derive(Drop)]
 pub struct Found {
     pub made: Flags,
     pub stays: Flags,
+}
+
+impl Drop for Found {
+    fn drop(self) {
+        let Found {
+            made: _made,
+            stays: _stays,
+        } = self;
+    }
 }
 
 // The edges to nodes whose flag is this.

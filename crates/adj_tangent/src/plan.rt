@@ -12,17 +12,33 @@ use adj_sweep_assignment::site::Site;
 use adj_tree::{Flags, Name};
 
 /// The name of a unit's tangent, and which of the unit's dummies carry one.
-#[derive(Drop)]
 pub struct Callee {
     pub tangent: Name,
     pub carried: Flags,
 }
 
+impl Drop for Callee {
+    fn drop(self) {
+        let Callee {
+            tangent: _tangent,
+            carried: _carried,
+        } = self;
+    }
+}
+
 /// What is known of units, each at the place of its name. Look-ups take constant time.
-#[derive(Drop)]
 pub struct Callees {
     pub names: NameSet,
     pub known: Vec<Callee>,
+}
+
+impl Drop for Callees {
+    fn drop(self) {
+        let Callees {
+            names: _names,
+            known: _known,
+        } = self;
+    }
 }
 
 /// The names of a unit, its variables that carry a tangent, and what is known of the units that it calls.

@@ -22,10 +22,18 @@ pub struct Full;
 
 /// Words on top of one another, and how many of them there may be. A word is of any type that is copied: in a dual run it
 /// carries a tangent.
-#[derive(Drop)]
 pub struct Tape<N: Copy> {
     words: Vec<N>,
     room: usize,
+}
+
+impl<N: Copy> Drop for Tape<N> {
+    fn drop(self) {
+        let Tape {
+            words: _words,
+            room: _,
+        } = self;
+    }
 }
 
 impl<N: Copy> Model for Tape<N> {

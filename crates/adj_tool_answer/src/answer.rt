@@ -46,10 +46,18 @@ impl Status {
 }
 
 /// The bytes that a command writes, and how the call ends where they are written whole.
-#[derive(Drop)]
 pub struct Answer {
     pub status: Status,
     pub text: Vec<u8>,
+}
+
+impl Drop for Answer {
+    fn drop(self) {
+        let Answer {
+            status: _status,
+            text: _text,
+        } = self;
+    }
 }
 
 /// Writes the decimal digits of a number behind a keyword.

@@ -18,10 +18,18 @@ use adj_tree::Values;
 use std::alloc::Global;
 
 /// What a run that is done gives: its values, and how many step calls its reversals made beyond their steps.
-#[derive(Drop)]
 pub struct Ended {
     pub values: Values,
     pub advances: u64,
+}
+
+impl Drop for Ended {
+    fn drop(self) {
+        let Ended {
+            values: _values,
+            advances: _,
+        } = self;
+    }
 }
 
 /// The run of a unit on an input, from an empty tape.

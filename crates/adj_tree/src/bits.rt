@@ -12,10 +12,15 @@ use std::marker::Model;
 const LIMIT: usize = 1 << 62;
 
 /// Truth values, 64 in a word, seen as their list.
-#[derive(Drop)]
 pub struct BitFlags {
     words: Vec<u64>,
     ghost room: { 64 * vec_len words < 2 ^ 64 },
+}
+
+impl Drop for BitFlags {
+    fn drop(self) {
+        let BitFlags { words: _words } = self;
+    }
 }
 
 impl Model for BitFlags {

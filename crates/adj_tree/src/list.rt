@@ -9,9 +9,14 @@ use std::alloc::Global;
 use std::marker::Model;
 
 /// Members in order, seen as their list.
-#[derive(Drop)]
 pub struct Items<T> {
     members: Vec<T>,
+}
+
+impl<T: Drop> Drop for Items<T> {
+    fn drop(self) {
+        let Items { members: _members } = self;
+    }
 }
 
 impl<T> Model for Items<T> {

@@ -12,7 +12,6 @@ pub struct Head {
 }
 
 /// Varied and useful variables by node, adjointed statements by statement, shadowed variables by unit and variable.
-#[derive(Drop)]
 pub struct Activity {
     pub varied: BitFlags,
     pub useful: BitFlags,
@@ -20,23 +19,56 @@ pub struct Activity {
     pub shadowed: Flags,
 }
 
+impl Drop for Activity {
+    fn drop(self) {
+        let Activity {
+            varied: _varied,
+            useful: _useful,
+            adjointed: _adjointed,
+            shadowed: _shadowed,
+        } = self;
+    }
+}
+
 /// The statements that the forward sweep keeps, and by unit and dummy the values that are needed at entry.
-#[derive(Drop)]
 pub struct Kept {
     pub kept: Flags,
     pub entry: Flags,
 }
 
+impl Drop for Kept {
+    fn drop(self) {
+        let Kept {
+            kept: _kept,
+            entry: _entry,
+        } = self;
+    }
+}
+
 /// The values that are saved, by statement and variable.
-#[derive(Drop)]
 pub struct Saved {
     pub saved: BitFlags,
 }
 
+impl Drop for Saved {
+    fn drop(self) {
+        let Saved { saved: _saved } = self;
+    }
+}
+
 /// All marks of a program.
-#[derive(Drop)]
 pub struct Marks {
     pub activity: Activity,
     pub kept: Kept,
     pub saved: Saved,
+}
+
+impl Drop for Marks {
+    fn drop(self) {
+        let Marks {
+            activity: _activity,
+            kept: _kept,
+            saved: _saved,
+        } = self;
+    }
 }

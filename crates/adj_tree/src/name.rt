@@ -9,9 +9,14 @@ use std::marker::Model;
 use std::rc::Rc;
 
 /// The name of a variable or a unit, seen as its bytes. Its copies share them; up to 16 bytes lie in one block.
-#[derive(Drop)]
 pub struct Name {
     shared: Rc<SmallVec<u8, 16>>,
+}
+
+impl Drop for Name {
+    fn drop(self) {
+        let Name { shared: _shared } = self;
+    }
 }
 
 impl Model for Name {

@@ -12,10 +12,18 @@ use std::alloc::Global;
 use std::mem;
 
 /// The names that were met, each once.
-#[derive(Drop)]
 pub struct NameTable {
     texts: IndexSet<Vec<u8>>,
     names: Vec<Name>,
+}
+
+impl Drop for NameTable {
+    fn drop(self) {
+        let NameTable {
+            texts: _texts,
+            names: _names,
+        } = self;
+    }
 }
 
 impl NameTable {

@@ -24,11 +24,20 @@ use std::alloc::Global;
 
 /// By the places of units: those whose adjoint is emitted, those whose forward and backward unit are, and those that are emitted as they
 /// are.
-#[derive(Drop)]
 pub struct Found {
     pub adjointed: Flags,
     pub paired: Flags,
     pub carried: Flags,
+}
+
+impl Drop for Found {
+    fn drop(self) {
+        let Found {
+            adjointed: _adjointed,
+            paired: _paired,
+            carried: _carried,
+        } = self;
+    }
 }
 
 /// The calls of a program with so many units, and its marks.

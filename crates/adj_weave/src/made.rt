@@ -13,11 +13,20 @@ use adj_weave_units::source::{made_names, source_names, units_of};
 use std::alloc::Global;
 
 /// The names of the adjoint, of the forward and of the backward unit of each unit, in their order.
-#[derive(Drop)]
 pub struct MadeNames {
     pub adjoints: Vec<Name>,
     pub forths: Vec<Name>,
     pub backs: Vec<Name>,
+}
+
+impl Drop for MadeNames {
+    fn drop(self) {
+        let MadeNames {
+            adjoints: _adjoints,
+            forths: _forths,
+            backs: _backs,
+        } = self;
+    }
 }
 
 /// The names that are made for the units of a checked program, of which these are the names: adjoints are named first, then forward

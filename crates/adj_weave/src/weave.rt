@@ -33,11 +33,20 @@ use std::alloc::Global;
 
 /// What is found of the units of a checked program before any is emitted, in their order: the names of what is made of them, the numbers of
 /// their first statements, and which are emitted.
-#[derive(Drop)]
 pub struct Table {
     pub names: MadeNames,
     pub numbers: Vec<usize>,
     pub found: Found,
+}
+
+impl Drop for Table {
+    fn drop(self) {
+        let Table {
+            names: _names,
+            numbers: _numbers,
+            found: _found,
+        } = self;
+    }
 }
 
 /// The head with its number, and for each of its dummies whether it is independent and whether it is dependent.

@@ -25,9 +25,9 @@ fn shadow_declaration(alloc: Global, n: &Names, decl: &Decl, x: &Name) -> Result
     let copy = decl.copy(alloc)?;
     let name = n.shadow(alloc, x)?;
     Ok(Decl {
-        line: copy.line,
+        line: decl.line,
         name,
-        extents: copy.extents,
+        extents: copy.into_extents(),
     })
 }
 

@@ -35,7 +35,6 @@ pub struct Advice {
 }
 
 /// A statement of a text.
-#[derive(Drop)]
 pub struct Stated {
     /// The line of its initial line.
     pub line: u32,
@@ -52,4 +51,19 @@ pub struct Stated {
     pub text: Bytes,
     /// What stands after its keyword, cut into tokens; the final THEN of a block IF or an ELSE IF is left out.
     pub tokens: Tokens,
+}
+
+impl Drop for Stated {
+    fn drop(self) {
+        let Stated {
+            line: _,
+            label: _,
+            mark: _mark,
+            split: _,
+            mark_line: _,
+            kind: _kind,
+            text: _text,
+            tokens: _tokens,
+        } = self;
+    }
 }

@@ -19,6 +19,6 @@ returns c =
     let places : c.add_names.new.set ≡ xs = c.in_ok-add_names.ensures.added ∙ ap (λ s. all_added s xs) c.in_ok-places.ensures.empty ∙ all_once xs c.requires.shadowed in
     record {
       names = λ (units : List (List ℕ)) h.
-          (λ i. map own (own_names i) ++ (paired (map shadow ((c.places.view_is ∙ places) i)) (c.new-4.ensures.members i) ++ paired (map variable_of (c.in_ok-helper_set.ensures.helpers i)) (c.new-5.ensures.members i)))
+          (λ i. map own (own_names i) ++ (paired (map shadow (places i)) (c.new-4.ensures.members i) ++ paired (map variable_of (c.in_ok-helper_set.ensures.helpers i)) (c.new-5.ensures.members i)))
           ∙ names_table vs units (map shadow xs) (map variable_of hs) (paired (map shadow xs) shadows) (paired (map variable_of hs) given) c.args.taken.now c.in_ok-all.all c.shadow_names.new.taken c.helper_names.new.taken h c.in_ok-all.ensures.names c.in_ok-shadows.ensures.shadows c.in_ok-given.ensures.helpers;
     }

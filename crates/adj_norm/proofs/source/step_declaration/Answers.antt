@@ -10,6 +10,6 @@ returns c =
     let x = c.args.x.now in
     record {
       declaration = λ ds k.
-          let here : map extent_of c.in_ok-decl.decl.extents ≡ declared ds (plain x) = ap (λ (d : Declaration). d.extents) (c.in_ok-decl.ensures.declaration ∙ k c.args.line x) ∙ declared_extents c.args.line ds x in
+          let here : map extent_of c.into_extents.result ≡ declared ds (plain x) = ap (map extent_of) c.into_extents.ensures.extents ∙ ap (λ (d : Declaration). d.extents) (c.in_ok-decl.ensures.declaration ∙ k c.args.line x) ∙ declared_extents c.args.line ds x in
           λ i. record { line = c.args.line; name = c.in_ok-name.ensures.same i; extents = here i } ∷ [];
     }

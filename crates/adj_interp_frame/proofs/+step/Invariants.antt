@@ -1,7 +1,0 @@
--- Dropping a list goes on with what is left of it.
-use Rattle.std.proofs.Common.{◌≤◌}
-use Rattle.adj_interp_frame.specs.declared.step.Steps.{size-Steps}
-use Rattle.adj_interp_frame.proofs.+step.Given as goal
-
-abbrev pub invariant-step::Steps::drop-loop-self : goal.invariant-step::Steps::drop-loop-self
-invariant-step::Steps::drop-loop-self l = size-Steps l.self ≤ size-Steps l.initial.self

@@ -1,7 +1,0 @@
--- Dropping a list goes on with what is left of it.
-use Rattle.std.proofs.Common.{◌≤◌}
-use Rattle.adj_interp_frame.specs.declared.term.Terms.{size-Terms}
-use Rattle.adj_interp_frame.proofs.+term.Given as goal
-
-abbrev pub invariant-term::Terms::drop-loop-self : goal.invariant-term::Terms::drop-loop-self
-invariant-term::Terms::drop-loop-self l = size-Terms l.self ≤ size-Terms l.initial.self
