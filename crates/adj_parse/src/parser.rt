@@ -1,11 +1,11 @@
 //! The statements of a text in order.
 
-ghost use Rattle.std.specs.Prelude.{◌≡◌, ◌==◌, ℕ, List, Some, None, nat_le, ◌&&◌, length, OnOk, option_map};
+ghost use Rattle.std.specs.Prelude.{◌≡◌, ◌==◌, ℕ, List, Some, None, nat_le, ◌&&◌, length, IfOk, IfErr, OnOk, option_map};
 ghost use Rattle.adj_tree.specs.Code as code;
 ghost use Rattle.adj_tree.specs.View.{mark_of};
 ghost use Rattle.adj_tree.specs.Common.{Shared};
 ghost use Rattle.adj_tree.specs.CommonView.{shared_units_of};
-ghost use Rattle.def_text.specs.Refused.{Gives};
+ghost use Rattle.def_text.specs.Refused.{Gives, Fails};
 ghost use Rattle.adj_parse_expression.specs.Front.{AreSlices};
 ghost use Rattle.adj_parse_expression.specs.View.{seen};
 ghost use Rattle.adj_parse.specs.Order.{breaks_loop, is_heading, opens_block};
@@ -195,14 +195,15 @@ impl Parser {
         }
     }
 
-    // What the next statement says, or the first limit that it passes.
-    fn limited_by(
+    // The first limit that the next statement passes; where it passes none, the rest is its form.
+    fn limit(
         &self,
         bounds: Bounds,
         stated: &Stated,
-        found: Option<Result<Said, Flaw>>,
-    ) -> Result<Said, Fault>
-        ensures { Gives (λ said. said) result (trees.limited_by bounds (state_of self.now) stated.now found) }
+        found: &Option<Result<Said, Flaw>>,
+    ) -> Result<(), Fault>
+        ensures within { IfOk result (λ _. trees.limited_by bounds (state_of self.now) stated.now found.now ≡ with_form found.now stated.now.line) }
+        ensures fault { IfErr result (λ e. Fails e (trees.limited_by bounds (state_of self.now) stated.now found.now)) }
     {
         let line = stated.line;
         if stated.kind == Kind::Subroutine && is_full(bounds.units, self.units.len()) {
@@ -211,13 +212,39 @@ impl Parser {
         if self.room == 0 {
             return Err(Fault::limited(u64::from(bounds.statements), line));
         }
-        if is_deep(&found) {
+        if is_deep(found) {
             return Err(Fault::limited(u64::from(bounds.depth), line));
         }
         if opens_block(stated.kind) && bounds.nesting <= self.depth() {
             return Err(Fault::limited(bounds.nesting as u64, line));
         }
-        with_form(found, line)
+        Ok(())
+    }
+
+    // The first fault of the next statement before that of its form.
+    fn fault(
+        &self,
+        bounds: Bounds,
+        stated: &Stated,
+        left: usize,
+        found: &Option<Result<Said, Flaw>>,
+    ) -> Result<(), Fault>
+        ensures within { IfOk result (λ _. checked bounds (state_of self.now) stated.now left found.now ≡ with_form found.now stated.now.line) }
+        ensures fault { IfErr result (λ e. Fails e (checked bounds (state_of self.now) stated.now left found.now)) }
+    {
+        if has_stray_mark(stated) {
+            return Err(Fault::refused(Code::Directive, stated.mark_line));
+        }
+        if found.is_none() || self.is_astray(stated, left) {
+            return Err(Fault::refused(Code::Malformed, stated.line));
+        }
+        if is_large(found) {
+            return Err(Fault::refused(Code::LargeNumber, stated.line));
+        }
+        if self.breaks_loop(stated.kind, stated.label) {
+            return Err(Fault::refused(Code::LoopEnd, stated.line));
+        }
+        self.limit(bounds, stated, found)
     }
 
     // What the next statement says, behind which some are left, or its first fault.
@@ -230,19 +257,8 @@ impl Parser {
     ) -> Result<Said, Fault>
         ensures { Gives (λ said. said) result (checked bounds (state_of self.now) stated.now left found) }
     {
-        if has_stray_mark(stated) {
-            return Err(Fault::refused(Code::Directive, stated.mark_line));
-        }
-        if found.is_none() || self.is_astray(stated, left) {
-            return Err(Fault::refused(Code::Malformed, stated.line));
-        }
-        if is_large(&found) {
-            return Err(Fault::refused(Code::LargeNumber, stated.line));
-        }
-        if self.breaks_loop(stated.kind, stated.label) {
-            return Err(Fault::refused(Code::LoopEnd, stated.line));
-        }
-        self.limited_by(bounds, stated, found)
+        self.fault(bounds, stated, left, &found)?;
+        with_form(found, stated.line)
     }
 
     /// Reads the next statement, behind which some are left, or refuses it.
