@@ -1,6 +1,6 @@
 //! Where flow begins and ends, and which variables have a shadow or a tangent outright.
 
-ghost use Rattle.std.specs.Prelude.{◌≡◌, ◌+◌, ◌*◌, ◌<◌, ◌++◌, ◌&&◌, ◌||◌, ◌^◌, ℕ, IfOk, OnOk, map, length};
+ghost use Rattle.std.specs.Prelude.{◌≡◌, ◌+◌, ◌*◌, ◌<◌, ◌≤◌, ◌++◌, ◌&&◌, ◌||◌, ◌^◌, true, ℕ, IfOk, OnOk, map, length};
 ghost use Rattle.adj_tree.specs.Code.{plain};
 ghost use Rattle.def_flow.specs.Rules.{somewhere};
 ghost use Rattle.def_names.specs.VariableLists.{list_if};
@@ -36,13 +36,35 @@ pub(crate) fn add_flagged(
     Ok(())
 }
 
-// Joins the flags at a point to those of some variables of a unit.
-fn join(seen: &mut [bool], flags: &BitFlags, width: usize, point: usize) -> Result<(), Memory>
+// The first place from this one on whose flag isn't set, where all before it are.
+fn first_unset(seen: &[bool], from: usize) -> usize
+    requires within { from ≤ length seen.now }
+    requires set { (j : ℕ) → j < from → flag seen.now j ≡ true }
+    ensures within { result ≤ length seen.now }
+    ensures set { (j : ℕ) → j < result → flag seen.now j ≡ true }
+{
+    for place in from..seen.len() {
+        if !seen[place] {
+            return place;
+        }
+    }
+    seen.len()
+}
+
+// Joins the flags at a point to those of some variables of a unit, of which the first are set.
+fn join(
+    seen: &mut [bool],
+    set: usize,
+    flags: &BitFlags,
+    width: usize,
+    point: usize,
+) -> Result<(), Memory>
+    requires set { (j : ℕ) → j < set → flag seen.old j ≡ true }
     ensures count { length seen.new ≡ length seen.old }
     ensures joined { OnOk result ((j : ℕ) → j < length seen.old → flag seen.new j ≡ (flag seen.old j || flag flags.now (point * width + j))) }
 {
     let first = point.checked_mul(width).ok_or(Memory)?;
-    for place in 0..seen.len() {
+    for place in set..seen.len() {
         let node = first.checked_add(place).ok_or(Memory)?;
         seen[place] = seen[place] || flags.at(node);
     }
@@ -50,21 +72,33 @@ fn join(seen: &mut [bool], flags: &BitFlags, width: usize, point: usize) -> Resu
 }
 
 // Joins those at the ends of a way.
-fn join_ends(seen: &mut [bool], flags: &BitFlags, width: usize, way: Way<'_>) -> Result<(), Memory>
+fn join_ends(
+    seen: &mut [bool],
+    set: usize,
+    flags: &BitFlags,
+    width: usize,
+    way: Way<'_>,
+) -> Result<(), Memory>
+    requires set { (j : ℕ) → j < set → flag seen.old j ≡ true }
     ensures count { length seen.new ≡ length seen.old }
     ensures joined { OnOk result ((j : ℕ) → j < length seen.old → flag seen.new j ≡ ((flag seen.old j || flag flags.now ((way_of way.entry).from * width + j)) || flag flags.now ((way_of way.entry).to * width + j))) }
 {
-    join(seen, flags, width, number(way.from))?;
-    join(seen, flags, width, number(way.to))
+    join(seen, set, flags, width, number(way.from))?;
+    join(seen, set, flags, width, number(way.to))
 }
 
-// Which variables of a unit are flagged at one of its points, by place.
+// Which variables of a unit are flagged at one of its points, by place. Those that stand before the first that isn't yet found flagged are passed over.
 fn seen(alloc: Global, flags: &BitFlags, width: usize, part: &Part<'_>) -> Result<Vec<bool>, Memory>
     ensures seen { IfOk result (λ v. AreSeen v.items flags.now width (row_of part.now)) }
 {
     let mut seen = vec![in alloc; false; part.variables.as_slice().len()]?;
+    let mut set = 0;
     for way in part.ways.as_slice() {
-        join_ends(seen.as_mut_slice(), flags, width, *way)?;
+        set = first_unset(seen.as_slice(), set);
+        if set == seen.len() {
+            return Ok(seen);
+        }
+        join_ends(seen.as_mut_slice(), set, flags, width, *way)?;
     }
     Ok(seen)
 }
