@@ -1,4 +1,4 @@
--- Lent: arrays whose cells a dummy has while its unit runs, and slots that are without cells meanwhile.
+-- Lent: variables whose cells a dummy has while its unit runs, and slots that are without cells meanwhile.
 use Rattle.std.specs.Prelude.{◌≡◌, ◌≤◌, ◌<◌, ℕ, List, [], map, length, slice_index_or, Some, slice_get, false}
 use Rattle.adj_tree.specs.Code.{Var}
 use Rattle.def_meaning.specs.Numbers.{Numbers}

@@ -16,7 +16,6 @@ ghost use Rattle.adj_interp_frame.specs.Lent.{HasLender, AreLent, IsFilled, AreF
 use crate::actual::Actual;
 use crate::frame::Frame;
 use crate::layout::{Area, Bound, Layout};
-use crate::lending::lender;
 use crate::routine::Routine;
 use crate::slot::Slot;
 use adj_number::Number;
@@ -129,7 +128,7 @@ impl<'a, N: Number> Frame<'a, N> {
             → is_fit (words_in area) (actual_in self.now.names.now shape s actual).shape ≡ false }
     {
         if let Area::Scalar = area {
-            let mut cells = Vec::new(alloc);
+            let mut cells = Vec::with_capacity(alloc, 1)?;
             cells.push(self.first_of(actual))?;
             return Ok(Slot {
                 rows: 0,
@@ -168,7 +167,7 @@ impl<'a, N: Number> Frame<'a, N> {
             → fit_from N.numbers routine.now (actuals_in self.now.names.now shape s actuals.now) i ≡ false }
     {
         let area = self.area(routine, actuals, i);
-        if let Some(variable) = lender(routine, actuals, i, area) {
+        if let Some(variable) = self.lender(routine, actuals, i, area) {
             let borrowed = self.borrower(alloc, variable, area)?;
             return Ok(borrowed);
         }

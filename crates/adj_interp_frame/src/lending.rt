@@ -1,4 +1,4 @@
-//! Arrays that are lent to dummies: while a unit runs, a dummy has the cells of its actual, and nothing is copied.
+//! Variables that are lent to dummies: while a unit runs, a dummy has the cells of its actual, and nothing is copied.
 
 ghost use Rattle.std.specs.Prelude.{◌≡◌, ◌<◌, ◌⊎◌, ℕ, Some, IfOk, IfSome, length, slice_get, slice_index_or, true, false, [], Err};
 ghost use Rattle.adj_interp_frame.specs.declared.actual.Actual.TheVariants as actual;
@@ -46,36 +46,43 @@ fn is_place_in<N: Number>(actual: Actual<N>, variable: usize) -> bool
     }
 }
 
-/// The whole variable that lends its cells to a dummy with these extents: an array which no actual before it names.
-pub(crate) fn lender<N: Number>(
-    routine: &Routine<'_>,
-    actuals: &[Actual<N>],
-    i: usize,
-    area: Area,
-) -> Option<usize>
-    ensures lent { IfSome result (λ k. IsLent routine.now actuals.now i k) }
-    ensures array { IfSome result (λ k. area ≡ extents.Scalar → ⊥) }
+// Whether the slot of a whole variable may have the cells of a dummy with these extents. An array is tested where it borrows;
+// a scalar that gets a whole array has a cell of its own.
+fn has_cells_for<N: Number>(slot: &Slot<N>, area: Area) -> bool
+    ensures scalar { result ≡ true → area ≡ extents.Scalar → shape_fits (words_in area) (slot_shape slot.now) ≡ true }
 {
-    if let Area::Scalar = area {
-        return None;
-    }
-    if i >= MOST_LENT || i >= routine.unit.dummies.as_slice().len() || i >= actuals.len() {
-        return None;
-    }
-    match actuals[i] {
-        Actual::Whole(variable) => {
-            if is_named_before(actuals, i, variable) {
-                None
-            } else {
-                Some(variable)
-            }
-        }
-        _ => None,
+    match area {
+        Area::Scalar => slot.rows == 0 && slot.cols == 0,
+        _ => true,
     }
 }
 
 impl<'a, N: Number> Frame<'a, N> {
-    /// The slot of a dummy array with these extents that gets the cells of a variable: it has none yet.
+    /// The whole variable that lends its cells to a dummy with these extents: one which no actual before it names.
+    pub(crate) fn lender(
+        &self,
+        routine: &Routine<'_>,
+        actuals: &[Actual<N>],
+        i: usize,
+        area: Area,
+    ) -> Option<usize>
+        requires below { AreActualsBelow self.now.slots.items actuals.now }
+        ensures lent { IfSome result (λ k. IsLent routine.now actuals.now i k) }
+        ensures scalar { IfSome result (λ k. area ≡ extents.Scalar → (d : ASlot N) → shape_fits (words_in area) (slot_shape (slice_index_or self.now.slots.items k d)) ≡ true) }
+    {
+        if i >= MOST_LENT || i >= routine.unit.dummies.as_slice().len() || i >= actuals.len() {
+            return None;
+        }
+        let Actual::Whole(variable) = actuals[i] else {
+            return None;
+        };
+        if !has_cells_for(&self.slots[variable], area) || is_named_before(actuals, i, variable) {
+            return None;
+        }
+        Some(variable)
+    }
+
+    /// The slot of a dummy with these extents that gets the cells of a variable: it has none yet.
     pub(crate) fn borrower(
         &self,
         alloc: Global,
