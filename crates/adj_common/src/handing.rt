@@ -110,7 +110,7 @@ impl Handing<'_> {
                 b.copy_boxed(alloc)?,
                 c.copy_boxed(alloc)?,
                 self.handed(alloc, body)?,
-                mark.copy(alloc)?,
+                mark.copy_boxed(alloc)?,
             ),
             Act::While(c, body) => Act::While(c.copy(alloc)?, self.handed(alloc, body)?),
             Act::Call(name, actuals) => {

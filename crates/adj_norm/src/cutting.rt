@@ -124,7 +124,7 @@ fn cut_statement(
             let start = from.copy_boxed(alloc)?;
             let last = limit.copy_boxed(alloc)?;
             let stride = by.copy_boxed(alloc)?;
-            let snapshots = mark.copy(alloc)?;
+            let snapshots = mark.copy_boxed(alloc)?;
             write(
                 line,
                 Act::Loop(name, start, last, stride, inner.code, snapshots),

@@ -19,11 +19,13 @@ fn marked_in_statement(stmt: &Stmt) -> Result<usize, Memory>
             let second = marked_in(b)?;
             plus(first, second)
         }
-        Act::Loop(_, _, _, _, body, Mark::Plain) => { marked_in(body) }
-        Act::Loop(_, _, _, _, body, Mark::Count(_) | Mark::From(_)) => {
-            let inner = marked_in(body)?;
-            plus(inner, 1)
-        }
+        Act::Loop(_, _, _, _, body, mark) => match &**mark {
+            Mark::Plain => { marked_in(body) }
+            Mark::Count(_) | Mark::From(_) => {
+                let inner = marked_in(body)?;
+                plus(inner, 1)
+            }
+        },
         Act::While(_, body) => { marked_in(body) }
     }
 }

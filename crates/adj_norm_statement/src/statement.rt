@@ -102,7 +102,7 @@ fn write_loop(
     let from = first.copy_boxed(alloc)?;
     let limit = last.copy_boxed(alloc)?;
     let stride = by.copy_boxed(alloc)?;
-    let snapshots = mark.copy(alloc)?;
+    let snapshots = mark.copy_boxed(alloc)?;
     let Lowered { code, most } = body;
     write(
         line,

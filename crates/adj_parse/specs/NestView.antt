@@ -17,7 +17,7 @@ use Rattle.adj_parse.specs.declared.block.Turn.{Turn}
 use Rattle.adj_parse.specs.declared.block.Turn.TheVariants as turns
 
 abbrev pub part_of : Part → blocks.Part
-part_of (parts.Loop l r m) = of_loop (option_map label_of l) (range_of r) (mark_of m)
+part_of (parts.Loop l r m) = of_loop (option_map label_of l) (range_of r) (mark_of m.value)
 part_of (parts.While c) = of_while (test_of c)
 part_of (parts.If c) = of_if (test_of c)
 part_of (parts.Else c first) = of_else (test_of c) (code_of first)

@@ -12,7 +12,7 @@ use adj_tree::{Act, Cond, Mark, Stmt, Stmts};
 #[derive(Drop)]
 pub(crate) enum Part {
     /// The body of a DO, with its label where it has one, and its mark.
-    Loop(Option<Label>, Range, Mark),
+    Loop(Option<Label>, Range, Box<Mark>),
     /// The body of a DO WHILE.
     While(Cond),
     /// The statements behind IF.

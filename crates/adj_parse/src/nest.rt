@@ -13,7 +13,7 @@ ghost use Rattle.adj_parse_statement.specs.View.{form_of};
 
 use crate::block::{Block, Part, Shape, Turn};
 use adj_parse_statement::Said;
-use adj_tree::{Act, Cond, Mark, Memory, Stmt, Stmts};
+use adj_tree::{Act, Cond, Mark, Memory, Stmt, Stmts, boxed};
 use def_text::Kind;
 use std::alloc::Global;
 use std::mem;
@@ -214,7 +214,10 @@ impl Nest {
         match said {
             Said::Simple(act) => self.add(line, act),
             Said::Guarded(cond, act) => self.add_guarded(alloc, line, cond, act),
-            Said::Do(own, range) => self.begin(alloc, line, Part::Loop(own, range, mark)),
+            Said::Do(own, range) => {
+                let kept = boxed(alloc, mark)?;
+                self.begin(alloc, line, Part::Loop(own, range, kept))
+            }
             Said::While(cond) => self.begin(alloc, line, Part::While(cond)),
             Said::EndDo => self.close(alloc),
             Said::Continue => self.close_while(alloc, Shape::LoopOf(label)),

@@ -43,20 +43,20 @@ pub fn of_depth(role: Role, depth: usize) -> Helper
 
 /// A DO that isn't marked.
 pub fn turns_of(
+    alloc: Global,
     line: u32,
     variable: Name,
     first: Box<Expr>,
     limit: Box<Expr>,
     step: Box<Expr>,
     body: Stmts,
-) -> Stmt
-    ensures line { result.line ≡ line }
-    ensures act { act_of result.act ≡ turns (plain variable) (term_of first.value) (term_of limit.value) (term_of step.value) (code_of body) }
+) -> Result<Stmt, Memory>
+    ensures line { IfOk result (λ s. s.line ≡ line) }
+    ensures act { IfOk result (λ s. act_of s.act ≡ turns (plain variable) (term_of first.value) (term_of limit.value) (term_of step.value) (code_of body)) }
 {
-    Stmt {
-        line,
-        act: Act::Loop(variable, first, limit, step, body, Mark::Plain),
-    }
+    let mark = boxed(alloc, Mark::Plain)?;
+    let act = Act::Loop(variable, first, limit, step, body, mark);
+    Ok(Stmt { line, act })
 }
 
 /// A DO as it is, with its forward sweep, behind what is turned round.
@@ -73,7 +73,7 @@ pub fn plain_turns(
     let limit = bounds.limit.copy_boxed(alloc)?;
     let step = bounds.step.copy_boxed(alloc)?;
     let variable = bounds.variable.copy(alloc)?;
-    let turns = turns_of(line, variable, first, limit, step, body.turned());
+    let turns = turns_of(alloc, line, variable, first, limit, step, body.turned())?;
     let code = before(alloc, turns, turned)?;
     Ok(code)
 }
@@ -133,7 +133,7 @@ impl<'a> Plan<'a> {
         let limit = bounds.limit.copy_boxed(alloc)?;
         let stride = self.own(alloc, of_depth(Role::Stride, at.depth))?;
         let variable = bounds.variable.copy(alloc)?;
-        let turns = turns_of(at.line, variable, first, limit, stride, counted);
+        let turns = turns_of(alloc, at.line, variable, first, limit, stride, counted)?;
         let code = before(alloc, turns, rest)?;
         Ok(code)
     }
@@ -191,7 +191,7 @@ impl<'a> Plan<'a> {
         let back = boxed(alloc, Expr::Lit(1))?;
         let stride = boxed(alloc, Expr::Neg(back))?;
         let turn = self.names.helper(alloc, Role::Turn, at.depth)?;
-        let turns = turns_of(at.line, turn, from, limit, stride, body);
+        let turns = turns_of(alloc, at.line, turn, from, limit, stride, body)?;
         let code = before(alloc, turns, rest)?;
         Ok(code)
     }

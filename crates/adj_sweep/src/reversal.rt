@@ -88,7 +88,7 @@ impl<'a> Plan<'a> {
         let limit = with_number(alloc, Op::Sub, left, 1)?;
         let step = boxed(alloc, Expr::Lit(1))?;
         let turn = self.names.helper(alloc, Role::Turn, at.depth)?;
-        let turns = turns_of(at.line, turn, first, limit, step, body);
+        let turns = turns_of(alloc, at.line, turn, first, limit, step, body)?;
         let code = before(alloc, turns, Stmts::Empty)?;
         Ok(code)
     }
@@ -176,7 +176,7 @@ impl<'a> Plan<'a> {
         let first = boxed(alloc, Expr::Lit(1))?;
         let by = boxed(alloc, Expr::Lit(1))?;
         let number = self.names.helper(alloc, Role::Entry, at.depth)?;
-        let turns = turns_of(at.line, number, first, last, by, body);
+        let turns = turns_of(alloc, at.line, number, first, last, by, body)?;
         let code = before(alloc, turns, rest)?;
         Ok(code)
     }

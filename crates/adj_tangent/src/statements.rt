@@ -201,7 +201,7 @@ impl<'a> Plan<'a> {
                 let from = first.copy_boxed(alloc)?;
                 let to = last.copy_boxed(alloc)?;
                 let stride = by.copy_boxed(alloc)?;
-                let marked = mark.copy(alloc)?;
+                let marked = mark.copy_boxed(alloc)?;
                 let act = Act::Loop(variable, from, to, stride, inner, marked);
                 steps.push(Stmt { line, act })?;
                 Ok(())

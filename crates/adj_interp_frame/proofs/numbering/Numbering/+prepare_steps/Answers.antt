@@ -4,7 +4,7 @@ use Rattle.adj_tree.specs.declared.stmt.Act.{size-Act}
 use Rattle.adj_tree.specs.declared.stmt.Act.TheViews.{sized-If, sized-Loop, sized-While, sized-More, size_is-Row}
 use Rattle.adj_tree.specs.declared.stmt.Stmts.TheVariants as stmts
 use Rattle.adj_tree.specs.Code.{step, assign, choose, loop, during, call, runtime}
-use Rattle.adj_tree.specs.View.{term_of, act_of, code_of, procedure_of}
+use Rattle.adj_tree.specs.View.{term_of, mark_of, act_of, code_of, procedure_of}
 use Rattle.adj_tree.specs.Listed.{code_turned}
 use Rattle.def_meaning.specs.Written.{find_unit}
 use Rattle.adj_interp_frame.specs.declared.step.Step.{Step}
@@ -136,7 +136,7 @@ task-returns-in_ok-first-in-Loop t c =
       directory = r3.directory;
       linked = r3.linked;
       resolves = rw c.in-Loop.is (record {
-        stands_for = λ ls f i. loop (r1.resolves.stands_for ls (extends_on _ _ _ e2 f) i) ((r4.first.stands_for ls f ∙ ap term_of c.deref.ensures) i) ((r4.second.stands_for ls f ∙ ap term_of c.deref-in-Loop.ensures) i) ((r4.third.stands_for ls f ∙ ap term_of c.deref-in-Loop-2.ensures) i) (r3.resolves.stands_for ls (extends_on _ _ _ e4 f) i) (r2.resolves.stands_for ls (extends_on _ _ _ e3 f) i);
+        stands_for = λ ls f i. loop (r1.resolves.stands_for ls (extends_on _ _ _ e2 f) i) ((r4.first.stands_for ls f ∙ ap term_of c.deref-in-Loop.ensures) i) ((r4.second.stands_for ls f ∙ ap term_of c.deref-in-Loop-2.ensures) i) ((r4.third.stands_for ls f ∙ ap term_of c.deref-in-Loop-3.ensures) i) (r3.resolves.stands_for ls (extends_on _ _ _ e4 f) i) ((r2.resolves.stands_for ls (extends_on _ _ _ e3 f) ∙ ap mark_of c.deref.ensures) i);
         below = λ ls f. (r1.resolves.below ls (extends_on _ _ _ e2 f), (r4.first.below ls f, r4.second.below ls f, r4.third.below ls f), r3.resolves.below ls (extends_on _ _ _ e4 f), r2.resolves.below ls (extends_on _ _ _ e3 f));
       });
     }

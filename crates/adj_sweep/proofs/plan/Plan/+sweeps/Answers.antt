@@ -40,21 +40,21 @@ pub statement-returns-in_ok-made-in-Some : goal.statement-returns-in_ok-made-in-
 statement-returns-in_ok-made-in-Some t c =
     let r = naming_in c.args.self.now in
     let inside = c.in_ok-inside-in-Loop.ensures.next in
-    let act = ap act_of c.in-Loop.is ∙ (λ i. loop (plain c.in-Loop.x) (term_of (sym c.deref.ensures i)) (term_of (sym c.deref-in-Loop.ensures i)) (term_of (sym c.deref-in-Loop-2.ensures i)) (code_of c.in-Loop.body) (mark_of c.in-Loop.mark)) in
+    let act = ap act_of c.in-Loop.is ∙ (λ i. loop (plain c.in-Loop.x) (term_of (sym c.deref.ensures i)) (term_of (sym c.deref-in-Loop.ensures i)) (term_of (sym c.deref-in-Loop-2.ensures i)) (code_of c.in-Loop.body) (mark_of (sym c.deref-in-Loop-3.ensures i))) in
     record {
       sweeps = λ callees reads k.
           let sc = schedules_of c.args.self.now reads in
           let p = plan_of c.args.self.now callees in
           let is = ap (step_of reads) (sym c.in-Some.is) ∙ c.step_call.ensures.step reads c.args.sweeps.number c.in_ok-number.ensures.next in
           subst (λ a. SweepsAct sc r p c.args.depth c.args.stmt.now.line a c.args.sweeps c.in_ok-made-in-Some.made) (sym act)
-          (c.in_ok-made-in-Some.ensures.sweeps callees reads c.args.depth (code_of c.in-Loop.body) (mark_of c.in-Loop.mark) k is inside);
+          (c.in_ok-made-in-Some.ensures.sweeps callees reads c.args.depth (code_of c.in-Loop.body) (mark_of c.deref-in-Loop-3.result.now) k is inside);
     }
 
 pub statement-returns-in_ok-made-in-None : goal.statement-returns-in_ok-made-in-None
 statement-returns-in_ok-made-in-None t c =
     let r = naming_in c.args.self.now in
     let inside = c.in_ok-inside-in-Loop.ensures.next in
-    let act = ap act_of c.in-Loop.is ∙ (λ i. loop (plain c.in-Loop.x) (term_of (sym c.deref.ensures i)) (term_of (sym c.deref-in-Loop.ensures i)) (term_of (sym c.deref-in-Loop-2.ensures i)) (code_of c.in-Loop.body) (mark_of c.in-Loop.mark)) in
+    let act = ap act_of c.in-Loop.is ∙ (λ i. loop (plain c.in-Loop.x) (term_of (sym c.deref.ensures i)) (term_of (sym c.deref-in-Loop.ensures i)) (term_of (sym c.deref-in-Loop-2.ensures i)) (code_of c.in-Loop.body) (mark_of (sym c.deref-in-Loop-3.ensures i))) in
     record {
       sweeps = λ callees reads k.
           let sc = schedules_of c.args.self.now reads in

@@ -15,7 +15,7 @@ returns c =
     let own = c.of_depth.ensures in
     let last = c.in_ok-last.ensures.term ∙ (λ j. var (r (helper (role_of (own.role j)) (own.number j)))) in
     let given = give_action (var (r (helper count d))) (rename_term r (slots_of d (mark_of c.args.step.now.mark.now))) (var (r (helper entry d))) (r (helper kind d)) (r (helper lower d)) (r (helper upper d)) in
-    let made = c.turns_of-turns.ensures in
+    let made = c.in_ok-turns.ensures in
     record {
       actions = λ callees.
           let body = c.in_ok-body.ensures.call ∙ ap (λ (z : Code). step line (runtime given) z) (c.in_ok-arms.ensures.arms callees) in

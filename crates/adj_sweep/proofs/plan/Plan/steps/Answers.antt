@@ -9,7 +9,7 @@ use Rattle.adj_sweep.proofs.plan.Plan.steps.Goals as goal
 pub returns : goal.returns
 returns c =
     let r = naming_in c.args.self.now in
-    let made = c.turns_of-turns.ensures in
+    let made = c.in_ok-turns.ensures in
     let h = c.of_depth.ensures in
     let g = c.of_depth-2.ensures in
     let first = c.in_ok-first.ensures.term ∙ (λ j. var (r (helper (role_of (h.role j)) (h.number j)))) in

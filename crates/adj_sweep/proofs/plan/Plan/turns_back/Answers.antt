@@ -9,7 +9,7 @@ use Rattle.adj_sweep.proofs.plan.Plan.turns_back.Goals as goal
 pub returns : goal.returns
 returns c =
     let r = naming_in c.args.self.now in
-    let made = c.turns_of-turns.ensures in
+    let made = c.in_ok-turns.ensures in
     let h = c.of_depth.ensures in
     let from = c.in_ok-from.ensures.term ∙ (λ j. bin minus ((c.in_ok-count.ensures.term ∙ (λ k. var (r (helper (role_of (h.role k)) (h.number k))))) j) (lit (pos 1))) in
     let stride = (λ j. term_of (c.in_ok-stride.ensures.boxed j)) ∙ (λ j. neg (term_of (c.in_ok-back.ensures.boxed j))) in

@@ -1,6 +1,6 @@
 use Rattle.std.proofs.Common.{rules, ◌≡◌, suc, ◌∙◌, sym, ap, subst, arith}
-use Rattle.adj_tree.specs.Code.{step}
-use Rattle.adj_tree.specs.View.{act_of, code_of}
+use Rattle.adj_tree.specs.Code.{plain, loop, step}
+use Rattle.adj_tree.specs.View.{term_of, mark_of, act_of, code_of}
 use Rattle.adj_tree.specs.declared.stmt.Stmts.{size-Stmts}
 use Rattle.adj_tree.specs.declared.stmt.Stmts.TheVariants as stmts
 use Rattle.adj_tree.specs.declared.stmt.Act.TheViews.{sized-More, size_is-Row}
@@ -51,6 +51,7 @@ statement-returns-in_ok-second-in-If t c =
 pub statement-returns-in_ok-used-in-Loop : goal.statement-returns-in_ok-used-in-Loop
 statement-returns-in_ok-used-in-Loop t c =
     let body = code_of c.in-Loop.body in
+    let act = ap act_of c.in-Loop.is ∙ (λ i. loop (plain c.in-Loop.x) (term_of c.in-Loop.field-1.value) (term_of c.in-Loop.field-2.value) (term_of c.in-Loop.field-3.value) body (mark_of (sym c.deref.ensures i))) in
     let i = c.args.number in
     let d = c.args.depth in
     let inner = c.in_ok-inner-in-Loop.inner in
@@ -60,7 +61,7 @@ statement-returns-in_ok-used-in-Loop t c =
       uses = λ arrays callees reads k.
           let r = schedules_by c.args.self.now reads in
           let p = plan_by c.args.self.now arrays callees in
-          subst (λ z. UsesAct r p d i z c.in_ok-used-in-Loop.used) (sym (ap act_of c.in-Loop.is))
+          subst (λ z. UsesAct r p d i z c.in_ok-used-in-Loop.used) (sym act)
           (c.in_ok-used-in-Loop.ensures.uses arrays callees reads d _ _ _ inside
           (subst (λ n. UsesList r p (suc d) n body inner) begun
           (subst (λ n. UsesList r p n c.in_ok-begun-in-Loop.begun body inner) inside (c.in_ok-inner-in-Loop.ensures.uses arrays callees reads k))));
@@ -68,7 +69,7 @@ statement-returns-in_ok-used-in-Loop t c =
           let r = schedules_by c.args.self.now reads in
           let p = plan_by c.args.self.now arrays callees in
           let mid = c.list-in-Loop.new.depths in
-          subst (λ z. AddsAct r p d i z c.args.depths.now c.around.new.depths) (sym (ap act_of c.in-Loop.is))
+          subst (λ z. AddsAct r p d i z c.args.depths.now c.around.new.depths) (sym act)
           (c.in_ok-used-in-Loop.ensures.adds arrays callees reads d _ _ _ c.args.depths.now inside
           (subst (λ n. UsesList r p (suc d) n body inner) begun
           (subst (λ n. UsesList r p n c.in_ok-begun-in-Loop.begun body inner) inside (c.in_ok-inner-in-Loop.ensures.uses arrays callees reads k))).idle

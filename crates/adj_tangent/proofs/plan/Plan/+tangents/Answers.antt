@@ -48,11 +48,11 @@ push_act-returns-in_ok-push-in-Loop t c = record {
       let s1 = c.push-in-Loop.new.self.items in
       let g = c.in-Loop in
       let s : Stmt = record { line = line; act = Loop c.in_ok-variable-in-Loop.variable c.in_ok-from-in-Loop.from c.in_ok-to-in-Loop.to c.in_ok-stride-in-Loop.stride c.in_ok-inner-in-Loop.inner c.in_ok-marked-in-Loop.marked } in
-      let a = loop (plain g.x) (term_of g.first.value) (term_of g.last.value) (term_of g.by.value) (code_of g.body) (mark_of g.mark) in
+      let a = loop (plain g.x) (term_of g.first.value) (term_of g.last.value) (term_of g.by.value) (code_of g.body) (mark_of g.mark.value) in
       let kept = λ (e : Expr). sym (term_kept r (λ x. refl) e) in
       let is : act_of s.act ≡ rename_act r (tangent_act p a) =
       λ i. loop (plain (c.in_ok-variable-in-Loop.ensures.same i)) ((c.in_ok-from-in-Loop.ensures.equal ∙ ap term_of c.deref.ensures ∙ kept g.first.value) i) ((c.in_ok-to-in-Loop.ensures.equal ∙ ap term_of c.deref-in-Loop.ensures ∙ kept g.last.value) i) ((c.in_ok-stride-in-Loop.ensures.equal ∙ ap term_of c.deref-in-Loop-2.ensures ∙ kept g.by.value) i)
-      (c.in_ok-inner-in-Loop.ensures.tangents callees k i) ((c.in_ok-marked-in-Loop.ensures.equal ∙ sym (mark_kept r (λ x. refl) g.mark)) i) in
+      (c.in_ok-inner-in-Loop.ensures.tangents callees k i) ((c.in_ok-marked-in-Loop.ensures.equal ∙ ap mark_of c.deref-in-Loop-3.ensures ∙ sym (mark_kept r (λ x. refl) g.mark.value)) i) in
       subst (λ z. AreBehind (rename r (one line (tangent_act p z))) s0 s1) (sym (ap act_of c.in-Loop.is)) (λ rest. steps_pushed s0 s1 s line (rename_act r (tangent_act p a)) rest c.in_ok-push-in-Loop.ensures.items refl is);
 }
 
