@@ -36,23 +36,15 @@ pub(crate) struct Outer<'a, N: Number> {
 }
 
 impl<'a, N: Number> Machine<'a, N> {
-    /// The actuals of a call, from left to right: as many as dummies, in most calls.
-    pub(crate) fn actuals(
-        &self,
-        routine: &Routine<'_>,
-        terms: &Terms,
-        line: u32,
-    ) -> Result<Vec<Actual<N>>, Stop>
+    /// The actuals of a call, from left to right.
+    pub(crate) fn actuals(&self, terms: &Terms, line: u32) -> Result<Vec<Actual<N>>, Stop>
         requires framed { IsFrame self.now.frame.names.now self.now.frame.slots.items }
         requires below { AreTermsBelow (length self.now.frame.names.now) terms.now }
         ensures actuals { (shape : Var → Shape) (room : Option ℕ) (level : ℕ) (s : Store N) → Shows N.numbers self.now.frame.names.now self.now.frame.slots.items shape s
             → Gets (λ v. actuals_in self.now.frame.names.now shape s v.items) line (actuals (on_numbers N.numbers shape room level) (terms_in self.now.frame.names.now terms.now) s) result }
         ensures below { IfOk result (λ v. AreActualsBelow self.now.frame.slots.items v.items) }
     {
-        let many = routine.unit.dummies.as_slice().len();
-        let Ok(mut found) = Vec::with_capacity(self.alloc, many) else {
-            return Err(Stop::Memory);
-        };
+        let mut found = self.spare_actuals.take(self.alloc);
         let mut current = terms;
         while let Terms::More(first, rest) = current {
             let actual = self.actual(first, line)?;
@@ -98,7 +90,8 @@ impl<'a, N: Number> Machine<'a, N> {
         ensures misfit { IfErr result (λ x. IsMisfit x line ((shape : Var → Shape) (s : Store N) → Shows N.numbers self.now.frame.names.now self.now.frame.slots.items shape s
             → fit_from N.numbers routine.now (actuals_in self.now.frame.names.now shape s actuals.now) 0 ≡ false)) }
     {
-        match self.frame.entry(self.alloc, routine, actuals) {
+        let room = self.spare_slots.take(self.alloc);
+        match self.frame.entry(self.alloc, routine, actuals, room) {
             Ok(slots) => Ok(Frame {
                 names: &routine.names,
                 slots,
@@ -179,5 +172,6 @@ impl<'a, N: Number> Machine<'a, N> {
     {
         self.frame
             .hand_back(routine, actuals, inner.slots.as_mut_slice());
+        self.spare_slots.keep(inner.slots);
     }
 }

@@ -58,7 +58,7 @@ pub(crate) fn first_entry<'a, N: Number>(
     let mut caller = outside(routine.unit, input);
     let actuals = wholes(alloc, caller.slots.len())?;
     let given = actuals.as_slice();
-    match caller.entry(alloc, routine, given) {
+    match caller.entry(alloc, routine, given, Vec::new(alloc)) {
         Ok(mut slots) => {
             caller.lend(given, slots.as_mut_slice());
             Ok(Frame {

@@ -17,10 +17,13 @@ ghost use Rattle.adj_interp_frame.specs.Suited.{AreTermsSuited, IsSuited, AreSui
 ghost use Rattle.adj_interp.specs.Held.{Entry, setting_at, Holds, OneCelled, Ends, Finds, stopped_at, bounds_in};
 
 use crate::cursor::Cursor;
+use crate::spare::Spare;
 use crate::stop::Stop;
 use crate::tally::Tally;
 use crate::trips::{most_tests, turns_of};
-use adj_interp_frame::{Bounds, Cell, Frame, Marking, Routine, Steps, Task, Term, Terms, Test};
+use adj_interp_frame::{
+    Actual, Bounds, Cell, Frame, Marking, Routine, Slot, Steps, Task, Term, Terms, Test,
+};
 use adj_number::Number;
 use adj_tape::Tape;
 use adj_tree::Trap;
@@ -28,7 +31,7 @@ use adj_word::add;
 use std::alloc::Global;
 
 /// What a run has in hand: the entry of the unit that runs, how many reversals were open when it began, its level, the
-/// tape, the statements that are left, what was counted, and the schedule that the entry asked last.
+/// tape, the statements that are left, what was counted, the schedule that the entry asked last, and the lists of the call that ended last.
 #[derive(Drop)]
 pub struct Machine<'a, N: Number> {
     pub frame: Frame<'a, N>,
@@ -38,6 +41,8 @@ pub struct Machine<'a, N: Number> {
     pub left: u64,
     pub tally: Tally,
     pub cursor: Option<Box<Cursor>>,
+    pub spare_actuals: Spare<Actual<N>>,
+    pub spare_slots: Spare<Slot<N>>,
     pub alloc: Global,
 }
 
@@ -263,13 +268,14 @@ impl<'a, N: Number> Machine<'a, N> {
             return Err(Stop::Trap(Trap::Shape, line));
         }
         let routine = &program[number];
-        let actuals = self.actuals(routine, terms, line)?;
+        let actuals = self.actuals(terms, line)?;
         let given = actuals.as_slice();
         let frame = self.entry(routine, given, line)?;
         let outer = self.enter(frame, given)?;
         let ended = self.run(program, depth - 1, &routine.body);
         let (inner, is_closed) = self.leave(outer);
         self.hand_back(routine, given, inner);
+        self.spare_actuals.keep(actuals);
         ended?;
         if !is_closed {
             return Err(Stop::Trap(Trap::Schedule, line));

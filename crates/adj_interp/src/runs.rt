@@ -23,6 +23,7 @@ use crate::log::Log;
 use crate::machine::Machine;
 use crate::output::{slots_of, values_of};
 use crate::preparing::prepared;
+use crate::spare::Spare;
 use crate::stop::Stop;
 use crate::tally::Tally;
 use adj_interp_frame::{Routine, Slot};
@@ -103,6 +104,8 @@ pub fn run_over<N: Number>(
         left: budget,
         tally: Tally::new(alloc),
         cursor: None,
+        spare_actuals: Spare::new(alloc),
+        spare_slots: Spare::new(alloc),
         alloc,
     };
     let ended = machine.finish(routines.as_slice(), budget, routine);

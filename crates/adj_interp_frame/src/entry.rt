@@ -181,11 +181,13 @@ impl<'a, N: Number> Frame<'a, N> {
     }
 
     /// The slots at the entry of a unit that gets actuals: each dummy array must fit its actual. A slot to which cells are lent has none yet.
+    /// They are put into a list that is given for its room, and that loses what it has.
     pub fn entry(
         &self,
         alloc: Global,
         routine: &Routine<'_>,
         actuals: &[Actual<N>],
+        mut slots: Vec<Slot<N>>,
     ) -> Result<Vec<Slot<N>>, Unfit>
         requires framed { IsFrame self.now.names.now self.now.slots.items }
         requires below { AreActualsBelow self.now.slots.items actuals.now }
@@ -200,7 +202,7 @@ impl<'a, N: Number> Frame<'a, N> {
             → fit_from N.numbers routine.now (actuals_in self.now.names.now shape s actuals.now) 0 ≡ false }
     {
         let count = routine.names.as_slice().len();
-        let mut slots = Vec::with_capacity(alloc, count)?;
+        slots.clear();
         for i in 0..count {
             let slot = self.entry_slot(alloc, routine, actuals, i)?;
             slots.push(slot)?;

@@ -8,7 +8,7 @@ ghost use Rattle.adj_interp_frame.specs.Linked.{IsTaskLinked, AreLinked};
 ghost use Rattle.adj_interp_frame.specs.Framed.{IsFrame};
 ghost use Rattle.adj_interp_frame.specs.Suited.{HasOneCell, IsSuited, AreSuited};
 
-use adj_interp::{Machine, Stop, Tally};
+use adj_interp::{Machine, Spare, Stop, Tally};
 use adj_interp_frame::{Cell, Frame, Slot, Step, Steps, Task, Term, Terms, Test};
 use adj_tape::Tape;
 use adj_tree::{Items, Memory, Name, NameList, Op, Rel};
@@ -48,6 +48,8 @@ fn machine<'a>(alloc: Global, names: &'a NameList, left: u64) -> Result<Machine<
         left,
         tally: Tally::new(alloc),
         cursor: None,
+        spare_actuals: Spare::new(alloc),
+        spare_slots: Spare::new(alloc),
         alloc,
     })
 }

@@ -61,7 +61,7 @@ returns-clause-shown g c us f shape s h =
 
 pub returns-in_err-slot : goal.returns-in_err-slot
 returns-in_err-slot g c =
-    rw (err_is c.from_residual-in_err-slot.result c.in_err-slot.field-0.0 c.from_residual-in_err-slot.ensures.1) (record {
+    rw (err_is c.from_residual.result c.in_err-slot.field-0.0 c.from_residual.ensures.1) (record {
       lent = tt;
       framed = tt;
       shown = tt;
