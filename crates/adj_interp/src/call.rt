@@ -21,7 +21,7 @@ ghost use Rattle.adj_interp.specs.Entered.{Gets, IsMisfit, inside};
 use crate::cursor::Cursor;
 use crate::machine::Machine;
 use crate::stop::Stop;
-use adj_interp_frame::{Actual, Frame, Routine, Term, Terms, Unfit};
+use adj_interp_frame::{Actual, Frame, Routine, Slot, Term, Terms, Unfit};
 use adj_number::Number;
 use adj_tree::Trap;
 use std::mem;
@@ -44,7 +44,7 @@ impl<'a, N: Number> Machine<'a, N> {
             → Gets (λ v. actuals_in self.now.frame.names.now shape s v.items) line (actuals (on_numbers N.numbers shape room level) (terms_in self.now.frame.names.now terms.now) s) result }
         ensures below { IfOk result (λ v. AreActualsBelow self.now.frame.slots.items v.items) }
     {
-        let mut found = self.spare_actuals.take(self.alloc);
+        let mut found = self.spare_actuals.take_empty(self.alloc);
         let mut current = terms;
         while let Terms::More(first, rest) = current {
             let actual = self.actual(first, line)?;
@@ -70,11 +70,30 @@ impl<'a, N: Number> Machine<'a, N> {
         }
     }
 
-    /// The entry of a unit that gets actuals. A slot to which cells are lent has none yet.
+    /// The slots that the last call of the unit of a number left, if there are any.
+    pub(crate) fn kept_slots(&self, number: usize) -> Vec<Slot<N>> {
+        match self.spare_slots.get(number) {
+            Some(spare) => spare.take(self.alloc),
+            None => Vec::new(self.alloc),
+        }
+    }
+
+    // Keeps the slots of a call of the unit of a number, and lets the cells of its arrays go.
+    fn keep_slots(&self, number: usize, mut slots: Vec<Slot<N>>) {
+        for i in 0..slots.len() {
+            slots[i].release(self.alloc);
+        }
+        if let Some(spare) = self.spare_slots.get(number) {
+            spare.keep(slots);
+        }
+    }
+
+    /// The entry of a unit that gets actuals, in a list that is given for its room. A slot to which cells are lent has none yet.
     pub(crate) fn entry(
         &self,
         routine: &'a Routine<'a>,
         actuals: &[Actual<N>],
+        room: Vec<Slot<N>>,
         line: u32,
     ) -> Result<Frame<'a, N>, Stop>
         requires framed { IsFrame self.now.frame.names.now self.now.frame.slots.items }
@@ -90,7 +109,6 @@ impl<'a, N: Number> Machine<'a, N> {
         ensures misfit { IfErr result (λ x. IsMisfit x line ((shape : Var → Shape) (s : Store N) → Shows N.numbers self.now.frame.names.now self.now.frame.slots.items shape s
             → fit_from N.numbers routine.now (actuals_in self.now.frame.names.now shape s actuals.now) 0 ≡ false)) }
     {
-        let room = self.spare_slots.take(self.alloc);
         match self.frame.entry(self.alloc, routine, actuals, room) {
             Ok(slots) => Ok(Frame {
                 names: &routine.names,
@@ -154,6 +172,7 @@ impl<'a, N: Number> Machine<'a, N> {
         &mut self,
         routine: &Routine<'a>,
         actuals: &[Actual<N>],
+        number: usize,
         mut inner: Frame<'a, N>,
     )
         requires framed { IsFrameFrom routine.now actuals.now 0 self.old.frame.names.now self.old.frame.slots.items }
@@ -172,6 +191,6 @@ impl<'a, N: Number> Machine<'a, N> {
     {
         self.frame
             .hand_back(routine, actuals, inner.slots.as_mut_slice());
-        self.spare_slots.keep(inner.slots);
+        self.keep_slots(number, inner.into_slots());
     }
 }

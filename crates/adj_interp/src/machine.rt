@@ -31,7 +31,7 @@ use adj_word::add;
 use std::alloc::Global;
 
 /// What a run has in hand: the entry of the unit that runs, how many reversals were open when it began, its level, the
-/// tape, the statements that are left, what was counted, the schedule that the entry asked last, and the lists of the call that ended last.
+/// tape, the statements that are left, what was counted, the schedule that the entry asked last, the actuals of the call that ended last, and for each unit the slots of its last call.
 #[derive(Drop)]
 pub struct Machine<'a, N: Number> {
     pub frame: Frame<'a, N>,
@@ -42,7 +42,7 @@ pub struct Machine<'a, N: Number> {
     pub tally: Tally,
     pub cursor: Option<Box<Cursor>>,
     pub spare_actuals: Spare<Actual<N>>,
-    pub spare_slots: Spare<Slot<N>>,
+    pub spare_slots: Vec<Spare<Slot<N>>>,
     pub alloc: Global,
 }
 
@@ -270,11 +270,11 @@ impl<'a, N: Number> Machine<'a, N> {
         let routine = &program[number];
         let actuals = self.actuals(terms, line)?;
         let given = actuals.as_slice();
-        let frame = self.entry(routine, given, line)?;
+        let frame = self.entry(routine, given, self.kept_slots(number), line)?;
         let outer = self.enter(frame, given)?;
         let ended = self.run(program, depth - 1, &routine.body);
         let (inner, is_closed) = self.leave(outer);
-        self.hand_back(routine, given, inner);
+        self.hand_back(routine, given, number, inner);
         self.spare_actuals.keep(actuals);
         ended?;
         if !is_closed {

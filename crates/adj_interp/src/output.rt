@@ -29,10 +29,12 @@ pub(crate) fn values_of(alloc: Global, slots: Vec<Slot<i64>>) -> Result<Values, 
 {
     let mut values = Vec::new(alloc);
     for slot in slots {
+        let rows = slot.rows as u64;
+        let cols = slot.cols as u64;
         values.push(Value {
-            rows: slot.rows as u64,
-            cols: slot.cols as u64,
-            cells: Items::new(slot.cells),
+            rows,
+            cols,
+            cells: Items::new(slot.into_cells()),
         })?;
     }
     Ok(Items::new(values))

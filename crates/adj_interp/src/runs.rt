@@ -23,7 +23,7 @@ use crate::log::Log;
 use crate::machine::Machine;
 use crate::output::{slots_of, values_of};
 use crate::preparing::prepared;
-use crate::spare::Spare;
+use crate::spare::{Spare, spares};
 use crate::stop::Stop;
 use crate::tally::Tally;
 use adj_interp_frame::{Routine, Slot};
@@ -96,6 +96,7 @@ pub fn run_over<N: Number>(
     let routine = &routines[unit];
     let frame = first_entry(alloc, routine, input)?;
     let empty = Tape::with_room(alloc, 0)?;
+    let spare_slots = spares(alloc, routines.len())?;
     let mut machine = Machine {
         frame,
         base: 0,
@@ -105,7 +106,7 @@ pub fn run_over<N: Number>(
         tally: Tally::new(alloc),
         cursor: None,
         spare_actuals: Spare::new(alloc),
-        spare_slots: Spare::new(alloc),
+        spare_slots,
         alloc,
     };
     let ended = machine.finish(routines.as_slice(), budget, routine);
@@ -113,7 +114,7 @@ pub fn run_over<N: Number>(
     *tape = machine.tape;
     ended?;
     let count = routine.unit.dummies.as_slice().len();
-    let mut slots = machine.frame.slots;
+    let mut slots = machine.frame.into_slots();
     slots.truncate(count);
     Ok(slots)
 }

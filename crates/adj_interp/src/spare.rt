@@ -1,36 +1,55 @@
-//! Room that a call leaves for later ones.
+//! Lists that a call leaves for later ones.
 
 ghost use Rattle.std.specs.Prelude.{◌≡◌, []};
 
+use adj_tree::Memory;
 use std::alloc::Global;
 use std::cell::Cell;
 
-/// The list of the call that ended last. The next call takes it for its room, and asks the heap for none.
-#[derive(Drop)]
+/// The list of the call that ended last. The next call takes it, and asks the heap for none.
 pub struct Spare<T> {
     list: Cell<Vec<T>>,
 }
 
+impl<T: Drop> Drop for Spare<T> {
+    fn drop(self) {
+        let Spare { list: _list } = self;
+    }
+}
+
 impl<T: Drop> Spare<T> {
-    /// No room yet.
+    /// No list yet.
     pub fn new(alloc: Global) -> Spare<T> {
         Spare {
             list: Cell::new(Vec::new(alloc)),
         }
     }
 
-    /// An empty list, with the room that was kept.
-    pub(crate) fn take(&self, alloc: Global) -> Vec<T>
+    /// The list that was kept, or an empty one.
+    pub(crate) fn take(&self, alloc: Global) -> Vec<T> {
+        self.list.replace(Vec::new(alloc))
+    }
+
+    /// An empty list, with the room of the one that was kept.
+    pub(crate) fn take_empty(&self, alloc: Global) -> Vec<T>
         ensures { result.items ≡ [] }
     {
-        let mut list = self.list.replace(Vec::new(alloc));
+        let mut list = self.take(alloc);
         list.clear();
         list
     }
 
-    /// Keeps the room of a list in place of what was kept before.
-    pub(crate) fn keep(&self, mut list: Vec<T>) {
-        list.clear();
+    /// Keeps a list in place of what was kept before.
+    pub(crate) fn keep(&self, list: Vec<T>) {
         self.list.set(list);
     }
+}
+
+/// One for each of so many units.
+pub(crate) fn spares<T: Drop>(alloc: Global, count: usize) -> Result<Vec<Spare<T>>, Memory> {
+    let mut made = Vec::with_capacity(alloc, count)?;
+    for _i in 0..count {
+        made.push(Spare::new(alloc))?;
+    }
+    Ok(made)
 }

@@ -1,7 +1,9 @@
 -- What stands at the entry of a unit, variable by variable.
 use Rattle.std.proofs.Common.{◌≡◌, ℕ, zero, suc, ◌+◌, ◌<◌, ◌≤◌, ◌⊎◌, inl, inr, Bool, true, false, List, [], ◌∷◌, ◌++◌, map, length, get_or, drop, refl, sym, ap, subst, ◌∙◌, arith, if◌then◌else◌}
 use Rattle.std.specs.Prelude.{ℤ, pos, int_le, ◌==◌, ◌&&◌, ◌||◌, nat_lt, slice_get, Option, Some, None}
-use Rattle.std.proofs.lemmas.List.{drop_all, drop_more, get_or_append_left, get_or_push, get_or-map, length-map, length-append}
+use Rattle.std.proofs.Math.ListN.{set}
+use Rattle.std.proofs.lemmas.Grind.{get_or-set_at}
+use Rattle.std.proofs.lemmas.List.{drop_all, drop_more, get_or_append_left, get_or-map, get_or-set_other, length-map, length-append}
 use Rattle.adj_tree.specs.Code.{Var, plain, shadow, helper, name_eq, var_eq, Declaration, Extent}
 use Rattle.adj_tree.specs.View.{procedure_of}
 use Rattle.adj_tree.proofs.Names.{nat_same, name_refl, name_same}
@@ -12,13 +14,15 @@ use Rattle.def_meaning.specs.Units.{declared, extent_in, extents_of, shape_of, s
 use Rattle.def_meaning.proofs.Booleans.{and_true, or_false}
 use Rattle.adj_interp_frame.specs.declared.slot.Slot.{Slot}
 use Rattle.adj_interp_frame.specs.declared.actual.Actual.{Actual as CodeActual}
+use Rattle.adj_interp_frame.specs.declared.layout.Layout.{Layout}
+use Rattle.adj_interp_frame.specs.declared.layout.Layout.TheVariants as layout
 use Rattle.adj_interp_frame.specs.declared.layout.Area.{Area}
 use Rattle.adj_interp_frame.specs.declared.layout.Area.TheVariants as area
 use Rattle.adj_interp_frame.specs.declared.routine.Routine.{Routine}
 use Rattle.adj_interp_frame.specs.Prepared.{var_at}
 use Rattle.adj_interp_frame.specs.Framed.{slot_shape, in_slot, shapes_in, zero_in, store_in}
 use Rattle.adj_interp_frame.specs.Shown.{Shows}
-use Rattle.adj_interp_frame.specs.Called.{actual_in, actuals_in, IsActualBelow, AreActualsBelow, given_at, IsLaidOut, entered_with, shapes_with, IsEntered, words_in, is_fit, fit_from}
+use Rattle.adj_interp_frame.specs.Called.{actual_in, actuals_in, IsActualBelow, AreActualsBelow, given_at, extents_at, IsLaidOut, entered_with, shapes_with, IsEntered, words_in, is_fit, fit_from}
 use Rattle.adj_interp_frame.proofs.Reading.{other_name}
 
 pub undeclared : (ds : List Declaration) (x : Var) → ((y : List ℕ) → var_eq x (plain y) ≡ false) → declared ds x ≡ []
@@ -91,16 +95,16 @@ module _ {C : Type 0} where
   pub given_below : (vs : List (Slot C)) (count : ℕ) (all : List (CodeActual C)) (i : ℕ) (a : CodeActual C) → AreActualsBelow vs all → given_at count all i ≡ Some a → IsActualBelow vs a
   given_below vs count all i a h e = let g = given_is count all i a e in subst (IsActualBelow vs) g.1.1 (h i a g.1.0)
 
-  -- what holds of each slot so far and of the next holds of each with the next behind
-  pub pushed_each : (P : ℕ → Slot C → Type 0) (vs : List (Slot C)) (v : Slot C) (i : ℕ) → length vs ≡ i → ((k : ℕ) (d : Slot C) → k < i → P k (get_or vs k d)) → P i v → (k : ℕ) (d : Slot C) → k < i + 1 → P k (get_or (vs ++ v ∷ []) k d)
-  pushed_each P vs v i n h here k d lt = go (nat_lt k i) refl
+  -- what holds of each slot so far and of the next holds of each with the next in its place
+  pub set_each : (P : ℕ → Slot C → Type 0) (vs : List (Slot C)) (v : Slot C) (i : ℕ) → i < length vs → ((k : ℕ) (d : Slot C) → k < i → P k (get_or vs k d)) → P i v → (k : ℕ) (d : Slot C) → k < i + 1 → P k (get_or (set vs i v) k d)
+  set_each P vs v i there h here k d lt = go (nat_lt k i) refl
     where
-      go : (b : Bool) → nat_lt k i ≡ b → P k (get_or (vs ++ v ∷ []) k d)
-      go true e = let m : k < i = grind arith in subst (P k) (sym (get_or_append_left vs (v ∷ []) d k (omega (arith, m, n)))) (h k d m)
+      go : (b : Bool) → nat_lt k i ≡ b → P k (get_or (set vs i v) k d)
+      go true e = let m : k < i = grind arith in subst (P k) (sym (get_or-set_other vs i k v d (λ q. omega (arith, m, q)))) (h k d m)
       go false e =
           let ge : i ≤ k = grind arith in
           let s : i ≡ k = omega (arith, ge, lt) in
-          subst (λ z. P z (get_or (vs ++ v ∷ []) z d)) s (subst (P i) (sym (get_or_push vs v d i n)) here)
+          subst (P k) (sym (get_or-set_at vs i k v d (sym s) there)) (subst (λ z. P z v) s here)
 
 module _ {C : Type 0} (numbers : Numbers C) where
   -- ---- the store at the entry
@@ -226,3 +230,29 @@ module _ {C : Type 0} (numbers : Numbers C) where
           | inl m ↦ fit_behind r (actuals_in names shape s all) i m ∙ sym (fit_behind r (actuals_in names shape s all) (i + 1) (omega (arith, m)))
           | inr m ↦ fit_short r (actuals_in names shape s all) i (omega (arith, n, m)) ∙ sym (fit_short r (actuals_in names shape s all) (i + 1) (omega (arith, n, m)))
         ]
+
+    -- a scalar fits
+    pub scalar_fit : [] ≡ extents_of numbers (procedure_of r.unit.now) (entered_with numbers r (actuals_in names shape s all)) (var_at r.names i) → fit_from numbers r (actuals_in names shape s all) i ≡ fit_from numbers r (actuals_in names shape s all) (i + 1)
+    scalar_fit q = go (given_at (length r.unit.now.dummies) all i) refl
+      where
+        go : (o : Option (CodeActual C)) → given_at (length r.unit.now.dummies) all i ≡ o → fit_from numbers r (actuals_in names shape s all) i ≡ fit_from numbers r (actuals_in names shape s all) (i + 1)
+        go (Some a) e = given_fit a [] e q
+        go None e = none_fit e
+
+  -- ---- a scalar
+
+  module _ (r : Routine) (l : IsLaidOut r) (got : List (Actual C)) (i : ℕ) (d : Layout) (there : i < length r.names) (scalar_there : get_or r.layouts.items i d ≡ layout.Scalar) where
+    -- it has no extents
+    pub no_extents : [] ≡ extents_of numbers (procedure_of r.unit.now) (entered_with numbers r got) (var_at r.names i)
+    no_extents = ap (map (extent_in numbers (entered_with numbers r got))) (sym (l.declares i d there ∙ ap (extents_at r.names) scalar_there))
+
+    -- with its number it is as at the entry
+    pub scalar_entered : (v : Slot C) (w : C) → slot_shape v ≡ scalar → v.cells.items ≡ w ∷ [] → w ≡ entered_with numbers r got (var_at r.names i) 0 → IsEntered numbers r got i v
+    scalar_entered v w sh cs e = record {
+      shape = sh ∙ ap shape_of no_extents;
+      cells = λ j lt. at j (subst (λ z. j < size_of z) sh lt);
+    }
+      where
+        at : (j : ℕ) → j < 1 → entered_with numbers r got (var_at r.names i) j ≡ get_or v.cells.items j (zero_in numbers)
+        at zero lt = sym e ∙ ap (λ ws. get_or ws 0 (zero_in numbers)) (sym cs)
+        at (suc j) lt = absurd (omega (arith, lt))

@@ -1,6 +1,6 @@
 //! The entry of a unit that is called: its slots.
 
-ghost use Rattle.std.specs.Prelude.{◌≡◌, ◌<◌, ◌+◌, ℕ, List, [], IfOk, length, slice_index_or, true, false};
+ghost use Rattle.std.specs.Prelude.{◌≡◌, ◌<◌, ◌+◌, ℕ, List, [], IfOk, OnOk, length, slice_index_or, true, false};
 ghost use Rattle.adj_tree.specs.Code.{Var};
 ghost use Rattle.adj_tree.specs.View.{procedure_of};
 ghost use Rattle.def_meaning.specs.Store.{Shape, size_of, Store};
@@ -62,6 +62,17 @@ fn given<N: Number>(routine: &Routine<'_>, actuals: &[Actual<N>], i: usize) -> O
     } else {
         None
     }
+}
+
+// So many slots without cells.
+fn blanks<N: Number>(alloc: Global, count: usize) -> Result<Vec<Slot<N>>, Memory>
+    ensures { IfOk result (λ v. length v.items ≡ count) }
+{
+    let mut slots = Vec::with_capacity(alloc, count)?;
+    for _i in 0..count {
+        slots.push(Slot::blank(alloc))?;
+    }
+    Ok(slots)
 }
 
 impl<'a, N: Number> Frame<'a, N> {
@@ -180,8 +191,38 @@ impl<'a, N: Number> Frame<'a, N> {
         }
     }
 
+    // Makes the slot of a variable as it is at the entry, before it gets the cells that are lent to it. A scalar's slot that has its cell keeps it.
+    fn renew(
+        &self,
+        alloc: Global,
+        routine: &Routine<'_>,
+        actuals: &[Actual<N>],
+        i: usize,
+        slot: &mut Slot<N>,
+    ) -> Result<(), Unfit>
+        requires framed { IsFrame self.now.names.now self.now.slots.items }
+        requires below { AreActualsBelow self.now.slots.items actuals.now }
+        requires laid { IsLaidOut routine.now }
+        requires there { i < length routine.now.names }
+        ensures lent { OnOk result (slot.new.cells.items ≡ [] → HasLender routine.now actuals.now i) }
+        ensures sized { OnOk result ((u : ASlot N) → IsFilled self.now.slots.items actuals.now i slot.new u → IsSlot u) }
+        ensures entered { OnOk result ((u : ASlot N) → IsFilled self.now.slots.items actuals.now i slot.new u → (shape : Var → Shape) (s : Store N) → Shows N.numbers self.now.names.now self.now.slots.items shape s
+            → IsEntered N.numbers routine.now (actuals_in self.now.names.now shape s actuals.now) i u) }
+        ensures fits { OnOk result ((shape : Var → Shape) (s : Store N) → Shows N.numbers self.now.names.now self.now.slots.items shape s
+            → fit_from N.numbers routine.now (actuals_in self.now.names.now shape s actuals.now) i ≡ fit_from N.numbers routine.now (actuals_in self.now.names.now shape s actuals.now) (i + 1)) }
+        ensures unfit { result ≡ Err unfit.Shape → (shape : Var → Shape) (s : Store N) → Shows N.numbers self.now.names.now self.now.slots.items shape s
+            → fit_from N.numbers routine.now (actuals_in self.now.names.now shape s actuals.now) i ≡ false }
+    {
+        if let (Layout::Scalar, true) = (routine.layouts[i], slot.is_scalar()) {
+            slot.hold(self.entry_word(routine, actuals, i));
+            return Ok(());
+        }
+        *slot = self.entry_slot(alloc, routine, actuals, i)?;
+        Ok(())
+    }
+
     /// The slots at the entry of a unit that gets actuals: each dummy array must fit its actual. A slot to which cells are lent has none yet.
-    /// They are put into a list that is given for its room, and that loses what it has.
+    /// A list is given for its room, as that of the last call of the unit, and loses what it has: its scalars keep their cells, so that they cost no more.
     pub fn entry(
         &self,
         alloc: Global,
@@ -202,10 +243,11 @@ impl<'a, N: Number> Frame<'a, N> {
             → fit_from N.numbers routine.now (actuals_in self.now.names.now shape s actuals.now) 0 ≡ false }
     {
         let count = routine.names.as_slice().len();
-        slots.clear();
+        if slots.len() != count {
+            slots = blanks(alloc, count)?;
+        }
         for i in 0..count {
-            let slot = self.entry_slot(alloc, routine, actuals, i)?;
-            slots.push(slot)?;
+            self.renew(alloc, routine, actuals, i, &mut slots[i])?;
         }
         Ok(slots)
     }

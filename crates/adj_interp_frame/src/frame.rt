@@ -18,13 +18,29 @@ use adj_number::Number;
 use adj_tree::{NameList, Trap};
 
 /// The slots of an entry, by the numbers of its unit's variables.
-#[derive(Drop)]
 pub struct Frame<'a, N: Number> {
     pub names: &'a NameList,
     pub slots: Vec<Slot<N>>,
 }
 
+impl<N: Number> Drop for Frame<'_, N> {
+    fn drop(self) {
+        let Frame {
+            names: _,
+            slots: _slots,
+        } = self;
+    }
+}
+
 impl<'a, N: Number> Frame<'a, N> {
+    /// Its slots.
+    pub fn into_slots(self) -> Vec<Slot<N>>
+        ensures { result ≡ self.entry.slots }
+    {
+        let Frame { names: _, slots } = self;
+        slots
+    }
+
     /// The value of an expression.
     #[cycle(value)]
     pub fn value(&self, term: &Term) -> Result<N, Trap>

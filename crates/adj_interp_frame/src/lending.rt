@@ -46,19 +46,9 @@ fn is_place_in<N: Number>(actual: Actual<N>, variable: usize) -> bool
     }
 }
 
-// Whether the slot of a whole variable may have the cells of a dummy with these extents. An array is tested where it borrows;
-// a scalar that gets a whole array has a cell of its own.
-fn has_cells_for<N: Number>(slot: &Slot<N>, area: Area) -> bool
-    ensures scalar { result ≡ true → area ≡ extents.Scalar → shape_fits (words_in area) (slot_shape slot.now) ≡ true }
-{
-    match area {
-        Area::Scalar => slot.rows == 0 && slot.cols == 0,
-        _ => true,
-    }
-}
-
 impl<'a, N: Number> Frame<'a, N> {
-    /// The whole variable that lends its cells to a dummy with these extents: one which no actual before it names.
+    /// The whole variable that lends its cells to a dummy array with these extents: one which no actual before it names. A dummy scalar gets a copy of
+    /// its actual's cell.
     pub(crate) fn lender(
         &self,
         routine: &Routine<'_>,
@@ -68,15 +58,18 @@ impl<'a, N: Number> Frame<'a, N> {
     ) -> Option<usize>
         requires below { AreActualsBelow self.now.slots.items actuals.now }
         ensures lent { IfSome result (λ k. IsLent routine.now actuals.now i k) }
-        ensures scalar { IfSome result (λ k. area ≡ extents.Scalar → (d : ASlot N) → shape_fits (words_in area) (slot_shape (slice_index_or self.now.slots.items k d)) ≡ true) }
+        ensures array { IfSome result (λ k. area ≡ extents.Scalar → ⊥) }
     {
+        if let Area::Scalar = area {
+            return None;
+        }
         if i >= MOST_LENT || i >= routine.unit.dummies.as_slice().len() || i >= actuals.len() {
             return None;
         }
         let Actual::Whole(variable) = actuals[i] else {
             return None;
         };
-        if !has_cells_for(&self.slots[variable], area) || is_named_before(actuals, i, variable) {
+        if is_named_before(actuals, i, variable) {
             return None;
         }
         Some(variable)

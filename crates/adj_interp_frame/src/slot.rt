@@ -2,7 +2,7 @@
 
 ghost use Rattle.std.specs.Prelude.{◌≡◌, ◌<◌, ◌∷◌, [], true, false, length, replicate, set, slice_index_or, IfOk};
 ghost use Rattle.def_meaning.specs.Trap.{index, or_trap};
-ghost use Rattle.def_meaning.specs.Store.{within, cell_of};
+ghost use Rattle.def_meaning.specs.Store.{scalar, within, cell_of};
 ghost use Rattle.adj_interp_frame.specs.Framed.{result_of, slot_shape, IsSlot, zero_in};
 
 use adj_number::Number;
@@ -11,11 +11,20 @@ use std::alloc::Global;
 use std::mem;
 
 /// Rows, columns and cells, column by column. A scalar has no rows, no columns and one cell, a list no columns.
-#[derive(Drop)]
 pub struct Slot<N: Number> {
     pub rows: usize,
     pub cols: usize,
     pub cells: Vec<N>,
+}
+
+impl<N: Number> Drop for Slot<N> {
+    fn drop(self) {
+        let Slot {
+            rows: _,
+            cols: _,
+            cells: _cells,
+        } = self;
+    }
 }
 
 // A subscript that lies within its extent, counted from 0.
@@ -29,12 +38,57 @@ fn within(subscript: i64, extent: usize) -> Option<usize>
 }
 
 impl<N: Number> Slot<N> {
+    /// Its cells.
+    pub fn into_cells(self) -> Vec<N>
+        ensures { result ≡ self.cells }
+    {
+        let Slot {
+            rows: _,
+            cols: _,
+            cells,
+        } = self;
+        cells
+    }
+
     /// The value of a scalar.
     pub fn first(&self) -> N
         requires { IsSlot self.now }
         ensures { result ≡ slice_index_or self.now.cells.items 0 (zero_in N.numbers) }
     {
         self.cells[0]
+    }
+
+    /// A slot without cells.
+    pub(crate) fn blank(alloc: Global) -> Slot<N> {
+        Slot {
+            rows: 0,
+            cols: 0,
+            cells: Vec::new(alloc),
+        }
+    }
+
+    /// Whether it is a scalar that has its cell.
+    pub(crate) fn is_scalar(&self) -> bool
+        ensures shape { result ≡ true → slot_shape self.now ≡ scalar }
+        ensures cell { result ≡ true → length self.now.cells.items ≡ 1 }
+    {
+        self.rows == 0 && self.cols == 0 && self.cells.len() == 1
+    }
+
+    /// Puts a number into the cell of a scalar.
+    pub(crate) fn hold(&mut self, number: N)
+        requires { length self.old.cells.items ≡ 1 }
+        ensures shape { slot_shape self.new ≡ slot_shape self.old }
+        ensures cells { self.new.cells.items ≡ number ∷ [] }
+    {
+        self.cells[0] = number;
+    }
+
+    /// Lets the cells of an array go.
+    pub fn release(&mut self, alloc: Global) {
+        if self.rows > 0 {
+            self.cells = Vec::new(alloc);
+        }
     }
 
     /// Whether it has no cells: it lent them, or they are lent to it.

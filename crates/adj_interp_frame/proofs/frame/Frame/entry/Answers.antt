@@ -1,6 +1,6 @@
-use Rattle.std.proofs.Common.{rules, ◌≡◌, ◌∷◌, ◌++◌, [], length, get_or, Err, sym, ap, subst, ◌∙◌, arith}
+use Rattle.std.proofs.Common.{rules, ◌≡◌, ◌<◌, [], length, get_or, Err, sym, ap, ◌∙◌, arith}
+use Rattle.std.proofs.Math.ListN.{length-set}
 use Rattle.std.proofs.lemmas.Grind.{common_steps}
-use Rattle.std.proofs.lemmas.List.{length-append}
 use Rattle.adj_tree.specs.Code.{Var}
 use Rattle.def_meaning.specs.Store.{Shape, Store}
 use Rattle.adj_interp_frame.specs.declared.entry.Unfit.TheVariants as why
@@ -10,7 +10,7 @@ use Rattle.adj_interp_frame.specs.Shown.{Shows}
 use Rattle.adj_interp_frame.specs.Called.{actuals_in, IsEntered}
 use Rattle.adj_interp_frame.specs.Lent.{HasLender, IsFilled}
 use Rattle.adj_interp_frame.proofs.Failing.{err_is}
-use Rattle.adj_interp_frame.proofs.Entering.{entered_shown, pushed_each}
+use Rattle.adj_interp_frame.proofs.Entering.{entered_shown, set_each}
 use Rattle.adj_interp_frame.proofs.frame.Frame.entry.Goals as goal
 
 pub loop-i-preserved : goal.loop-i-preserved
@@ -18,21 +18,19 @@ loop-i-preserved g c =
     let inv = c.loop-i.invariant in
     let i = c.loop-i.i in
     let slots = c.loop-i.slots.items in
-    let v = c.in_ok-slot.slot in
+    let v = c.renew.new.slot in
+    let made = c.in_ok-renew.ensures in
     let vs = c.args.self.now.slots.items in
     let all = c.args.actuals.now in
     let r = c.args.routine.now in
     let names = c.args.self.now.names.now in
-    let pushed : c.push.new.self.items ≡ c.loop-i.slots.items ++ c.in_ok-slot.slot ∷ [] = search rules in
-    let n = inv.count in
-    let longer = length-append slots (v ∷ []) in
+    let there : i < length slots = let n = inv.count in let m = c.loop-i-test.true in omega (arith, n, m) in
     record {
-      count = ap length pushed ∙ omega (arith, n, longer);
-      lent = λ k d lt. subst (λ xs. (get_or xs k d).cells.items ≡ [] → HasLender r all k) (sym pushed) (pushed_each (λ k z. z.cells.items ≡ [] → HasLender r all k) slots v i n inv.lent c.in_ok-slot.ensures.lent k d lt);
-      sized = λ k d lt. subst (λ xs. (u : Slot _) → IsFilled vs all k (get_or xs k d) u → IsSlot u) (sym pushed) (pushed_each (λ k z. (u : Slot _) → IsFilled vs all k z u → IsSlot u) slots v i n inv.sized c.in_ok-slot.ensures.sized k d lt);
-      entered = λ k d lt. subst (λ xs. (u : Slot _) → IsFilled vs all k (get_or xs k d) u → (shape : Var → Shape) (s : Store _) → Shows g.N.Number.numbers names vs shape s → IsEntered g.N.Number.numbers r (actuals_in names shape s all) k u) (sym pushed)
-          (pushed_each (λ k z. (u : Slot _) → IsFilled vs all k z u → (shape : Var → Shape) (s : Store _) → Shows g.N.Number.numbers names vs shape s → IsEntered g.N.Number.numbers r (actuals_in names shape s all) k u) slots v i n inv.entered c.in_ok-slot.ensures.entered k d lt);
-      fits = λ shape s h. inv.fits shape s h ∙ c.in_ok-slot.ensures.fits shape s h;
+      count = length-set slots i v ∙ inv.count;
+      lent = set_each (λ k z. z.cells.items ≡ [] → HasLender r all k) slots v i there inv.lent made.lent;
+      sized = set_each (λ k z. (u : Slot _) → IsFilled vs all k z u → IsSlot u) slots v i there inv.sized made.sized;
+      entered = set_each (λ k z. (u : Slot _) → IsFilled vs all k z u → (shape : Var → Shape) (s : Store _) → Shows g.N.Number.numbers names vs shape s → IsEntered g.N.Number.numbers r (actuals_in names shape s all) k u) slots v i there inv.entered made.entered;
+      fits = λ shape s h. inv.fits shape s h ∙ made.fits shape s h;
     }
 
 pub returns-clause-lent : goal.returns-clause-lent
@@ -59,12 +57,12 @@ returns-clause-shown g c us f shape s h =
     entered_shown g.N.Number.numbers c.args.routine.now (actuals_in c.args.self.now.names.now shape s c.args.actuals.now) us c.requires.laid (each ∙ sym f.count)
     (λ k d lt. inv.entered k d (omega (arith, lt, each, n)) (get_or us k d) (f.each k d d (omega (arith, lt, each))) shape s h)
 
-pub returns-in_err-slot : goal.returns-in_err-slot
-returns-in_err-slot g c =
-    rw (err_is c.from_residual.result c.in_err-slot.field-0.0 c.from_residual.ensures.1) (record {
+pub returns-in_err-renew : goal.returns-in_err-renew
+returns-in_err-renew g c =
+    rw (err_is c.from_residual-in_err-renew.result c.in_err-renew.field-0.0 c.from_residual-in_err-renew.ensures.1) (record {
       lent = tt;
       framed = tt;
       shown = tt;
       fits = tt;
-      unfit = λ q shape s h. let same : c.in_err-slot.field-0.0 ≡ why.Shape = cc in c.loop-i.invariant.fits shape s h ∙ c.in_err-slot.ensures.unfit (ap Err same) shape s h;
+      unfit = λ q shape s h. let same : c.in_err-renew.field-0.0 ≡ why.Shape = cc in c.loop-i.invariant.fits shape s h ∙ c.in_err-renew.ensures.unfit (ap Err same) shape s h;
     })

@@ -11,7 +11,7 @@ use Rattle.adj_interp_frame.proofs.frame.Frame.entry.Given as goal
 
 abbrev pub invariant-loop-i : goal.invariant-loop-i
 invariant-loop-i g l = record {
-  count : length l.slots.items ≡ l.i;
+  count : length l.slots.items ≡ l.count;
   lent : (k : ℕ) (d : Slot _) → k < l.i → (get_or l.slots.items k d).cells.items ≡ [] → HasLender l.routine l.actuals k;
   sized : (k : ℕ) (d : Slot _) → k < l.i → (u : Slot _) → IsFilled l.self.slots.items l.actuals k (get_or l.slots.items k d) u → IsSlot u;
   entered : (k : ℕ) (d : Slot _) → k < l.i → (u : Slot _) → IsFilled l.self.slots.items l.actuals k (get_or l.slots.items k d) u → (shape : Var → Shape) (s : Store g.row.N.Denot) → Shows g.N.Number.numbers l.self.names.now l.self.slots.items shape s → IsEntered g.N.Number.numbers l.routine (actuals_in l.self.names.now shape s l.actuals) k u;

@@ -66,7 +66,7 @@ returns-in_err-borrowed-clause-unfit g c q shape s h =
     let shaped = h.shapes (var_at names k) ∙ read_shape names vs k d c.requires.framed there in
     let bad = c.in_err-borrowed.ensures.unfit (sym r ∙ q) d in
     given_fit g.N.Number.numbers c.args.routine.now c.requires.laid names shape s all c.args.i (actual.Whole k) _ lent.given (c.area-area.ensures shape s h)
-    ∙ ap (λ z. z && fit_from g.N.Number.numbers c.args.routine.now (actuals_in names shape s all) (c.args.i + 1)) (ap (is_fit (words_in c.area-area.result)) shaped ∙ unfit_array c.area-area.result (λ z. let good = c.in-Some.ensures.scalar z d in absurd cc) (slot_shape (get_or vs k d)) bad)
+    ∙ ap (λ z. z && fit_from g.N.Number.numbers c.args.routine.now (actuals_in names shape s all) (c.args.i + 1)) (ap (is_fit (words_in c.area-area.result)) shaped ∙ unfit_array c.area-area.result (λ z. absurd (c.in-Some.ensures.array z)) (slot_shape (get_or vs k d)) bad)
 
 -- ---- one that gets a copy
 
