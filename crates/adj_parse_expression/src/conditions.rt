@@ -82,7 +82,7 @@ pub fn condition<'t>(
     ensures behind { IfOk result (λ found. IfSome found (λ f. AreSlices text.now f.1.now)) }
 {
     match read(alloc, text, tokens, limit)? {
-        Some((made, rest)) => Ok(Some((made.found, rest))),
+        Some((made, rest)) => Ok(Some((made.into_found(), rest))),
         None => Ok(None),
     }
 }

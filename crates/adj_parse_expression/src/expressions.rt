@@ -46,7 +46,7 @@ fn ended<'t>(
     ensures behind { IfOk result (λ found. IfSome found (λ f. f.1.now ≡ rest.now)) }
 {
     match finish(alloc, frames, left, limit)? {
-        Some(operand) => Ok(Some((operand.found, rest))),
+        Some(operand) => Ok(Some((operand.into_found(), rest))),
         None => Ok(None),
     }
 }

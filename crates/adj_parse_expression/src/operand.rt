@@ -16,12 +16,21 @@ use std::alloc::Global;
 
 /// An expression: its tree or what is wrong with it, its depth or 1 more than the limit where it is deeper, and what it is
 /// as an exponent. One that is too deep isn't kept, so no tree is ever deeper than the limit.
-#[derive(Drop)]
 pub(crate) struct Operand {
     pub found: Result<Box<Expr>, Flaw>,
     pub depth: u32,
     pub constant: Constant,
     ghost shallow: { depth ≤ 1000 },
+}
+
+impl Drop for Operand {
+    fn drop(self) {
+        let Operand {
+            found: _found,
+            depth: _,
+            constant: _,
+        } = self;
+    }
 }
 
 // The exponent that a literal expression is. Of its own flaws only a literal that is too large counts.
@@ -40,6 +49,18 @@ fn exponent(found: Result<Box<Expr>, Flaw>, constant: Constant) -> Result<u32, F
 impl Operand {
     ghost use Rattle.adj_parse_expression.specs.Partial.{literal, scalar, opposite, combined, to_literal, to_expression, powered, application, bounded, algebra, operand_of};
     ghost use Rattle.def_text.specs.Machine.{with_sign};
+
+    /// Its tree or what is wrong with it, of which nothing is copied.
+    pub fn into_found(self) -> Result<Box<Expr>, Flaw>
+        ensures { result ≡ self.found }
+    {
+        let Operand {
+            found,
+            depth: _,
+            constant: _,
+        } = self;
+        found
+    }
 
     // One with a flaw.
     fn flawed(flaw: Flaw, depth: u32, constant: Constant, limit: u32) -> Operand
@@ -136,7 +157,7 @@ impl Operand {
     {
         let depth = self.depth.max(right.depth) + 1;
         let constant = self.constant.joined(op, right.constant);
-        match both(self.found, right.found) {
+        match both(self.into_found(), right.into_found()) {
             Ok((a, b)) => Operand::bounded(alloc, Expr::Bin(op, a, b), depth, constant, limit),
             Err(flaw) => Ok(Operand::flawed(flaw, depth, constant, limit)),
         }
@@ -148,8 +169,9 @@ impl Operand {
         ensures { IfOk result (λ x. operand_of x ≡ to_literal limit (operand_of self) (operand_of right)) }
     {
         let depth = self.depth + 1;
-        let constant = self.constant.powered(right.constant);
-        match both(self.found, exponent(right.found, right.constant)) {
+        let other = right.constant;
+        let constant = self.constant.powered(other);
+        match both(self.into_found(), exponent(right.into_found(), other)) {
             Ok((a, k)) => Operand::bounded(alloc, Expr::Pow(a, k), depth, constant, limit),
             Err(flaw) => Ok(Operand::flawed(flaw, depth, constant, limit)),
         }
@@ -161,7 +183,7 @@ impl Operand {
         ensures { IfOk result (λ x. operand_of x ≡ to_expression limit (operand_of self) (operand_of right)) }
     {
         let depth = self.depth.max(right.depth) + 1;
-        match both(self.found, right.found) {
+        match both(self.into_found(), right.into_found()) {
             Ok((a, b)) => Operand::bounded(alloc, Expr::Power(a, b), depth, Constant::Other, limit),
             Err(flaw) => Ok(Operand::flawed(flaw, depth, Constant::Other, limit)),
         }
@@ -184,9 +206,8 @@ impl Operand {
         requires { limit < 1000 }
         ensures { IfOk result (λ x. operand_of x ≡ application limit name (operand_of argument ∷ [])) }
     {
-        let Operand { found, depth, .. } = argument;
-        let depth = depth + 1;
-        match found {
+        let depth = argument.depth + 1;
+        match argument.into_found() {
             Ok(a) => {
                 let tree = one_argument(name, alloc, a)?;
                 Operand::bounded(alloc, tree, depth, Constant::Other, limit)
@@ -207,7 +228,7 @@ impl Operand {
         ensures { IfOk result (λ x. operand_of x ≡ application limit name (operand_of first ∷ operand_of second ∷ [])) }
     {
         let depth = first.depth.max(second.depth) + 1;
-        match both(first.found, second.found) {
+        match both(first.into_found(), second.into_found()) {
             Ok((a, b)) => {
                 let tree = two_arguments(name, alloc, a, b)?;
                 Operand::bounded(alloc, tree, depth, Constant::Other, limit)

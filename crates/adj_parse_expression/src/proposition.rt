@@ -12,15 +12,31 @@ use std::alloc::Global;
 
 /// A condition: its tree or what is wrong with it, and its depth or 1 more than the limit where it is deeper. One that is too
 /// deep isn't kept, so no tree is ever deeper than the limit.
-#[derive(Drop)]
 pub(crate) struct Proposition {
     pub found: Result<Box<Cond>, Flaw>,
     pub depth: u32,
     ghost shallow: { depth ≤ 1000 },
 }
 
+impl Drop for Proposition {
+    fn drop(self) {
+        let Proposition {
+            found: _found,
+            depth: _,
+        } = self;
+    }
+}
+
 impl Proposition {
     ghost use Rattle.adj_parse_expression.specs.PartialCondition.{bounded_test, comparison_of, negation_of, conjunction_of, disjunction_of, proposition_of};
+
+    /// Its tree or what is wrong with it, of which nothing is copied.
+    pub fn into_found(self) -> Result<Box<Cond>, Flaw>
+        ensures { result ≡ self.found }
+    {
+        let Proposition { found, depth: _ } = self;
+        found
+    }
 
     // One with a flaw.
     fn flawed(flaw: Flaw, depth: u32, limit: u32) -> Proposition
@@ -70,7 +86,7 @@ impl Proposition {
         ensures { IfOk result (λ c. proposition_of c ≡ comparison_of limit (rel_of rel) (operand_of left) (operand_of right)) }
     {
         let depth = left.depth.max(right.depth) + 1;
-        match both(left.found, right.found) {
+        match both(left.into_found(), right.into_found()) {
             Ok((a, b)) => Proposition::bounded(alloc, Cond::Cmp(rel, a, b), depth, limit),
             Err(flaw) => Ok(Proposition::flawed(flaw, depth, limit)),
         }
@@ -99,7 +115,7 @@ impl Proposition {
         ensures { IfOk result (λ c. proposition_of c ≡ conjunction_of limit (proposition_of self) (proposition_of right)) }
     {
         let depth = self.depth.max(right.depth) + 1;
-        match both(self.found, right.found) {
+        match both(self.into_found(), right.into_found()) {
             Ok((c, d)) => Proposition::bounded(alloc, Cond::And(c, d), depth, limit),
             Err(flaw) => Ok(Proposition::flawed(flaw, depth, limit)),
         }
@@ -116,7 +132,7 @@ impl Proposition {
         ensures { IfOk result (λ c. proposition_of c ≡ disjunction_of limit (proposition_of self) (proposition_of right)) }
     {
         let depth = self.depth.max(right.depth) + 1;
-        match both(self.found, right.found) {
+        match both(self.into_found(), right.into_found()) {
             Ok((c, d)) => Proposition::bounded(alloc, Cond::Or(c, d), depth, limit),
             Err(flaw) => Ok(Proposition::flawed(flaw, depth, limit)),
         }
