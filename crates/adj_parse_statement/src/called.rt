@@ -111,11 +111,30 @@ fn actions(alloc: Global, actuals: &[Expr]) -> Result<Option<RunCall>, Memory>
 }
 
 // The variables of `ADACT`.
-#[derive(Drop)]
 struct Places {
     kind: Name,
     from: Name,
     to: Name,
+}
+
+impl Places {
+    // `ADACT` of three values and these variables.
+    fn into_action(self, steps: Box<Expr>, snapshots: Box<Expr>, number: Box<Expr>) -> RunCall
+        ensures { runtime_of result ≡ give_action (term_of steps.value) (term_of snapshots.value) (term_of number.value) (plain self.kind) (plain self.from) (plain self.to) }
+    {
+        let Places { kind, from, to } = self;
+        RunCall::Action(steps, snapshots, number, kind, from, to)
+    }
+}
+
+impl Drop for Places {
+    fn drop(self) {
+        let Places {
+            kind: _kind,
+            from: _from,
+            to: _to,
+        } = self;
+    }
 }
 
 // The names that three actuals are.
@@ -167,8 +186,7 @@ fn asked(
         return Ok(None);
     };
     let (steps, snapshots, number) = three_boxed(alloc, steps, snapshots, number)?;
-    let Places { kind, from, to } = places;
-    Ok(Some(RunCall::Action(steps, snapshots, number, kind, from, to)))
+    Ok(Some(places.into_action(steps, snapshots, number)))
 }
 
 // `ADACT`, where its actuals are three values and three names.

@@ -8,17 +8,30 @@ use adj_tree::{Memory, Name};
 use std::alloc::Global;
 
 /// Digits of a label that no statement carries: the number that they write is 2^32 or more.
-#[derive(Drop)]
 pub struct LongLabel {
     pub digits: Name,
     pub ghost long: { 2 ^ 32 ≤ number_of digits },
 }
 
+impl Drop for LongLabel {
+    fn drop(self) {
+        let LongLabel { digits: _digits } = self;
+    }
+}
+
 /// The label behind DO, of any number of digits.
-#[derive(Drop)]
 pub enum Label {
     Short(u32),
     Long(LongLabel),
+}
+
+impl Drop for Label {
+    fn drop(self) {
+        match self {
+            Label::Short(_) => {}
+            Label::Long(_part) => {}
+        }
+    }
 }
 
 impl Label {
