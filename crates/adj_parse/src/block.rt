@@ -9,7 +9,6 @@ use adj_parse_statement::{Label, Range};
 use adj_tree::{Act, Cond, Mark, Stmt, Stmts};
 
 /// The part of a DO or an IF whose statements are being read.
-#[derive(Drop)]
 pub(crate) enum Part {
     /// The body of a DO, with its label where it has one, and its mark.
     Loop(Option<Label>, Range, Box<Mark>),
@@ -21,6 +20,18 @@ pub(crate) enum Part {
     Else(Cond, Stmts),
     /// The IF that an ELSE IF is, and the statements before it.
     Chain(Cond, Stmts),
+}
+
+impl Drop for Part {
+    fn drop(self) {
+        match self {
+            Part::Loop(_part0, _part1, _part2) => {}
+            Part::While(_part) => {}
+            Part::If(_part) => {}
+            Part::Else(_part0, _part1) => {}
+            Part::Chain(_part0, _part1) => {}
+        }
+    }
 }
 
 /// What a block may be.
@@ -61,9 +72,7 @@ impl Part {
         ensures { act_of result ≡ whole (part_of self) (code_of body) }
     {
         match self {
-            Part::Loop(_, range, mark) => {
-                Act::Loop(range.counter, range.from, range.to, range.by, body, mark)
-            }
+            Part::Loop(_own, range, mark) => range.into_loop(body, mark),
             Part::While(cond) => Act::While(cond, body),
             Part::If(cond) => Act::If(cond, body, Stmts::Empty),
             Part::Else(cond, first) => Act::If(cond, first, body),

@@ -19,7 +19,6 @@ use def_text::Kind;
 use std::alloc::Global;
 
 /// A unit before its END.
-#[derive(Drop)]
 pub(crate) struct Current {
     line: u32,
     name: Name,
@@ -31,16 +30,27 @@ pub(crate) struct Current {
     pub nest: Nest,
 }
 
+impl Drop for Current {
+    fn drop(self) {
+        let Current {
+            line: _,
+            name: _name,
+            dummies: _dummies,
+            none: _,
+            decls: _decls,
+            commons: _commons,
+            phase: _phase,
+            nest: _nest,
+        } = self;
+    }
+}
+
 // Adds the items of an INTEGER or a COMMON statement as declarations.
 fn declare(decls: &mut Vec<Decl>, line: u32, items: Vec<Item>) -> Result<(), Memory>
     ensures { OnOk result (map declaration_of decls.new.items ≡ map declaration_of decls.old.items ++ map (unit.declaration_of line) (map item_of items.items)) }
 {
     for item in items {
-        decls.push(Decl {
-            line,
-            name: item.name,
-            extents: item.extents,
-        })?;
+        decls.push(item.into_decl(line))?;
     }
     Ok(())
 }
@@ -130,17 +140,27 @@ impl Current {
     pub(crate) fn finished(self, alloc: Global) -> Result<SharedUnit, Memory>
         ensures { IfOk result (λ u. shared_of u ≡ finished (current_of self)) }
     {
-        let mut body = self.nest.into_body(alloc)?;
+        let Current {
+            line,
+            name,
+            dummies,
+            none,
+            decls,
+            commons,
+            phase: _,
+            nest,
+        } = self;
+        let mut body = nest.into_body(alloc)?;
         body.share(alloc, &mut NameTable::new(alloc))?;
         let unit = Unit {
-            line: self.line,
-            name: self.name,
-            dummies: self.dummies,
-            none: self.none,
-            decls: Decls::new(self.decls),
+            line,
+            name,
+            dummies,
+            none,
+            decls: Decls::new(decls),
             body,
         };
-        let commons = Commons::new(self.commons);
+        let commons = Commons::new(commons);
         Ok(SharedUnit { unit, commons })
     }
 }

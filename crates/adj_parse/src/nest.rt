@@ -19,10 +19,18 @@ use std::alloc::Global;
 use std::mem;
 
 /// The open blocks, the innermost last, and the statements of the innermost so far.
-#[derive(Drop)]
 pub(crate) struct Nest {
     blocks: Vec<Block>,
     acts: Vec<Stmt>,
+}
+
+impl Drop for Nest {
+    fn drop(self) {
+        let Nest {
+            blocks: _blocks,
+            acts: _acts,
+        } = self;
+    }
 }
 
 fn last_is(blocks: &[Block], shape: Shape) -> bool
@@ -239,6 +247,10 @@ impl Nest {
     pub(crate) fn into_body(self, alloc: Global) -> Result<Stmts, Memory>
         ensures { IfOk result (λ body. code_of body ≡ code_listed (nest_of self).acts) }
     {
-        Stmts::from_vec(alloc, self.acts)
+        let Nest {
+            blocks: _blocks,
+            acts,
+        } = self;
+        Stmts::from_vec(alloc, acts)
     }
 }

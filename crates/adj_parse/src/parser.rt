@@ -24,11 +24,20 @@ use def_text::{Kind, Mode, Stated};
 use std::alloc::Global;
 
 /// The units so far, and how many more statements the text may have.
-#[derive(Drop)]
 pub(crate) struct Parser {
     units: Vec<SharedUnit>,
     current: Option<Current>,
     room: u32,
+}
+
+impl Drop for Parser {
+    fn drop(self) {
+        let Parser {
+            units: _units,
+            current: _current,
+            room: _,
+        } = self;
+    }
 }
 
 fn opens_block(kind: Kind) -> bool
@@ -285,8 +294,13 @@ impl Parser {
     pub(crate) fn finish(self) -> SharedProgram
         ensures { shared_units_of result ≡ (state_of self).units.done }
     {
+        let Parser {
+            units,
+            current: _current,
+            room: _,
+        } = self;
         SharedProgram {
-            units: SharedUnits::new(self.units),
+            units: SharedUnits::new(units),
         }
     }
 }

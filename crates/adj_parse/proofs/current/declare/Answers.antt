@@ -1,4 +1,4 @@
-use Rattle.std.proofs.Common.{◌++◌, ◌∙◌, refl, sym, ap, map}
+use Rattle.std.proofs.Common.{◌++◌, ◌∙◌, sym, ap, map}
 use Rattle.std.proofs.lemmas.Iterator.Adapters.{YieldsList-from_vec}
 use Rattle.std.proofs.lemmas.Iterator.Consumers.{YieldsList-end}
 use Rattle.std.proofs.lemmas.List.{map-id}
@@ -9,7 +9,7 @@ use Rattle.adj_parse.proofs.Declares.{one_declared}
 use Rattle.adj_parse.proofs.current.declare.Goals as goal
 
 pub loop-item-preserved : goal.loop-item-preserved
-loop-item-preserved c = rw c.in_ok-push.ensures.items (one_declared c.args.decls.now.items c.loop-item.decls.items c.loop-item.yielded c.args.line c.in-Some.item _ c.loop-item.invariant refl)
+loop-item-preserved c = rw c.in_ok-push.ensures.items (one_declared c.args.decls.now.items c.loop-item.decls.items c.loop-item.yielded c.args.line c.in-Some.item _ c.loop-item.invariant c.into_decl.ensures)
 
 pub returns : goal.returns
 returns c =
