@@ -70,10 +70,18 @@ impl<'a> Dummies<'a> {
 }
 
 /// The dummies of all units, and how many there are.
-#[derive(Drop)]
 pub(crate) struct Nodes<'a> {
     pub units: Vec<Dummies<'a>>,
     pub count: usize,
+}
+
+impl Drop for Nodes<'_> {
+    fn drop(self) {
+        let Nodes {
+            units: _units,
+            count: _,
+        } = self;
+    }
 }
 
 /// The dummies of all units.
