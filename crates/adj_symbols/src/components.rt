@@ -7,7 +7,6 @@ use std::alloc::Global;
 use std::cmp;
 
 // A search in depth. Edges are named by their places, counted from 1, and 0 names none.
-#[derive(Drop)]
 struct Walk<'a> {
     edges: &'a [(usize, usize)],
     // of each node the next edge to be followed
@@ -24,6 +23,24 @@ struct Walk<'a> {
     path: Vec<usize>,
     clock: usize,
     found: usize,
+}
+
+impl Drop for Walk<'_> {
+    fn drop(self) {
+        let Walk {
+            edges: _,
+            cursors: _cursors,
+            later: _later,
+            met: _met,
+            lowest: _lowest,
+            labels: _labels,
+            is_closed: _is_closed,
+            open: _open,
+            path: _path,
+            clock: _,
+            found: _,
+        } = self;
+    }
 }
 
 fn at(numbers: &[usize], place: usize) -> usize {
@@ -144,6 +161,24 @@ impl<'a> Walk<'a> {
         }
         Ok(())
     }
+
+    // The numbers of the components, of which none is copied.
+    fn into_labels(self) -> Vec<usize> {
+        let Walk {
+            edges: _,
+            cursors: _cursors,
+            later: _later,
+            met: _met,
+            lowest: _lowest,
+            labels,
+            is_closed: _is_closed,
+            open: _open,
+            path: _path,
+            clock: _,
+            found: _,
+        } = self;
+        labels
+    }
 }
 
 /// A number for each node: that of its strongly connected component, counted so that edges lead to lower numbers.
@@ -157,5 +192,5 @@ pub(crate) fn components(
     for root in 0..nodes {
         walk.meet_from(root)?;
     }
-    Ok(walk.labels)
+    Ok(walk.into_labels())
 }

@@ -12,7 +12,6 @@ use std::marker::Model;
 
 /// A number of nodes and edges between them, seen as these. Each node has a label, and no edge leads to a greater label;
 /// each label has a root, and it is known which nodes the root of their label leads to, and which lead to it.
-#[derive(Drop)]
 pub(crate) struct Graph {
     nodes: usize,
     edges: Vec<(usize, usize)>,
@@ -20,6 +19,19 @@ pub(crate) struct Graph {
     roots: Vec<usize>,
     ahead: Flags,
     behind: Flags,
+}
+
+impl Drop for Graph {
+    fn drop(self) {
+        let Graph {
+            nodes: _,
+            edges: _edges,
+            labels: _labels,
+            roots: _roots,
+            ahead: _ahead,
+            behind: _behind,
+        } = self;
+    }
 }
 
 impl Model for Graph {

@@ -22,12 +22,22 @@ use std::marker::Model;
 
 /// A unit, whose statements at any depth stand in one list and whose names are looked up in
 /// constant time.
-#[derive(Drop)]
 pub(crate) struct Outline<'a> {
     unit: &'a Unit,
     stmts: Vec<&'a Stmt>,
     ranks: Box<Numbers<'a>>,
     dummies: BorrowedNames<'a>,
+}
+
+impl Drop for Outline<'_> {
+    fn drop(self) {
+        let Outline {
+            unit: _,
+            stmts: _stmts,
+            ranks: _ranks,
+            dummies: _dummies,
+        } = self;
+    }
 }
 
 impl<'a> Model for Outline<'a> {

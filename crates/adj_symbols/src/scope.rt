@@ -18,10 +18,18 @@ use std::alloc::Global;
 use std::marker::Model;
 
 /// The units of a program with their tables, seen as the units.
-#[derive(Drop)]
 pub(crate) struct Scope<'a> {
     outlines: Vec<Outline<'a>>,
     numbers: Box<Numbers<'a>>,
+}
+
+impl Drop for Scope<'_> {
+    fn drop(self) {
+        let Scope {
+            outlines: _outlines,
+            numbers: _numbers,
+        } = self;
+    }
 }
 
 impl<'a> Model for Scope<'a> {

@@ -18,11 +18,20 @@ use std::alloc::Global;
 use std::marker::Model;
 
 /// The variables that actuals of a CALL name so far: all, those for dummies that are written, and those that are whole arrays.
-#[derive(Drop)]
 struct Actuals<'a> {
     seen: BorrowedNames<'a>,
     written: BorrowedNames<'a>,
     arrays: BorrowedNames<'a>,
+}
+
+impl Drop for Actuals<'_> {
+    fn drop(self) {
+        let Actuals {
+            seen: _seen,
+            written: _written,
+            arrays: _arrays,
+        } = self;
+    }
 }
 
 impl<'a> Model for Actuals<'a> {

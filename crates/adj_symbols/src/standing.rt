@@ -31,9 +31,14 @@ pub(crate) struct Use<'a> {
 }
 
 /// Names in the order in which they stand, each with the line of its statement, seen as their list.
-#[derive(Drop)]
 pub(crate) struct Uses<'a> {
     uses: Vec<Use<'a>>,
+}
+
+impl Drop for Uses<'_> {
+    fn drop(self) {
+        let Uses { uses: _uses } = self;
+    }
 }
 
 impl<'a> Model for Uses<'a> {

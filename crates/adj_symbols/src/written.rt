@@ -21,9 +21,14 @@ use std::alloc::Global;
 use std::marker::Model;
 
 /// For each unit which of its dummies are written, seen as these rows.
-#[derive(Drop)]
 pub(crate) struct Written {
     rows: Vec<Flags>,
+}
+
+impl Drop for Written {
+    fn drop(self) {
+        let Written { rows: _rows } = self;
+    }
 }
 
 impl Model for Written {
@@ -50,7 +55,8 @@ impl Written {
     pub(crate) fn into_rows(self) -> Vec<Flags>
         ensures rows { result.items ≡ self }
     {
-        self.rows
+        let Written { rows } = self;
+        rows
     }
 }
 
