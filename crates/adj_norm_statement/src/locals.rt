@@ -12,13 +12,22 @@ use std::alloc::Global;
 use std::mem;
 
 /// The names of a unit's locals, by number, counted from 0. Each is made where it is first asked for.
-#[derive(Drop)]
 pub struct Locals<'a> {
     /// The names that no local of any unit may have.
     shared: &'a NameSet,
     taken: Taken<'a>,
     names: Vec<Name>,
     ghost made: { AreMade taken names.items },
+}
+
+impl Drop for Locals<'_> {
+    fn drop(self) {
+        let Locals {
+            shared: _,
+            taken: _taken,
+            names: _names,
+        } = self;
+    }
 }
 
 impl<'a> Locals<'a> {
