@@ -11,11 +11,19 @@ use std::marker::Model;
 use std::mem;
 
 /// Names, none of them twice, seen as their list. Look-ups take constant time.
-#[derive(Drop)]
 pub struct Once {
     known: NameSet,
     names: Vec<Name>,
     ghost same: { names.items ≡ known },
+}
+
+impl Drop for Once {
+    fn drop(self) {
+        let Once {
+            known: _known,
+            names: _names,
+        } = self;
+    }
 }
 
 impl Model for Once {
