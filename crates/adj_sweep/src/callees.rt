@@ -17,7 +17,6 @@ pub struct Dummy {
 }
 
 /// The names of a unit's adjoint and of its forward and its backward unit, and the unit's dummies.
-#[derive(Drop)]
 pub struct Callee {
     pub adjoint: Name,
     pub forth: Name,
@@ -25,12 +24,32 @@ pub struct Callee {
     pub dummies: Vec<Dummy>,
 }
 
+impl Drop for Callee {
+    fn drop(self) {
+        let Callee {
+            adjoint: _adjoint,
+            forth: _forth,
+            back: _back,
+            dummies: _dummies,
+        } = self;
+    }
+}
+
 /// What is known of units, each at the place of its name, and what is said of those that aren't there. Look-ups take constant time.
-#[derive(Drop)]
 pub struct Callees {
     pub names: NameSet,
     pub known: Vec<Callee>,
     pub other: Callee,
+}
+
+impl Drop for Callees {
+    fn drop(self) {
+        let Callees {
+            names: _names,
+            known: _known,
+            other: _other,
+        } = self;
+    }
 }
 
 impl Callees {

@@ -14,12 +14,22 @@ use std::alloc::Global;
 
 /// The depths of loops that go back: of those that are a DO, of all, of those that are reversed by a schedule, and of those among them
 /// whose number of snapshots is the value of a variable. A set has a flag for each depth up to its greatest.
-#[derive(Drop)]
 pub struct Depths {
     pub dos: Vec<bool>,
     pub loops: Vec<bool>,
     pub reversed: Vec<bool>,
     pub slots: Vec<bool>,
+}
+
+impl Drop for Depths {
+    fn drop(self) {
+        let Depths {
+            dos: _dos,
+            loops: _loops,
+            reversed: _reversed,
+            slots: _slots,
+        } = self;
+    }
 }
 
 // Adds a depth, unless the loop that has it is idle.
