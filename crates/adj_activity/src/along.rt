@@ -16,12 +16,22 @@ use adj_tree::Memory;
 use std::alloc::Global;
 
 /// Rows of the variables of units, arcs that carry them along ways, and the other steps as edges. There are so many nodes for each point.
-#[derive(Drop)]
 pub(crate) struct Along {
     pub width: usize,
     pub rows: Rows,
     pub arcs: Vec<Arc>,
     pub edges: Vec<(usize, usize)>,
+}
+
+impl Drop for Along {
+    fn drop(self) {
+        let Along {
+            width: _,
+            rows: _rows,
+            arcs: _arcs,
+            edges: _edges,
+        } = self;
+    }
 }
 
 // Adds the arc of a way on which no unit is called.
