@@ -10,11 +10,19 @@ use adj_tree::{Decl, Extent, Memory, Unit};
 use std::alloc::Global;
 
 /// The first declaration of each variable of a unit, in order. Look-ups take constant time.
-#[derive(Drop)]
 pub(crate) struct Declared {
     names: NameSet,
     firsts: Vec<Decl>,
     pub(crate) ghost alike: { names ≡ map (λ d. d.name) firsts.items },
+}
+
+impl Drop for Declared {
+    fn drop(self) {
+        let Declared {
+            names: _names,
+            firsts: _firsts,
+        } = self;
+    }
 }
 
 /// The first declaration of each variable of a unit.

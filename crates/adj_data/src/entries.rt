@@ -19,25 +19,50 @@ use std::alloc::Global;
 use std::marker::Model;
 
 /// A name, its line, and the numbers behind it.
-#[derive(Drop)]
 pub(crate) struct Entry {
     pub(crate) name: Vec<u8>,
     pub(crate) line: u32,
     pub(crate) numbers: Vec<i64>,
 }
 
+impl Drop for Entry {
+    fn drop(self) {
+        let Entry {
+            name: _name,
+            line: _,
+            numbers: _numbers,
+        } = self;
+    }
+}
+
 /// What entries are read by: the names that they may have, and which items begin them.
-#[derive(Drop)]
 pub(crate) struct Reading {
     pub(crate) names: NameSet,
     pub(crate) titles: Titles,
 }
 
+impl Drop for Reading {
+    fn drop(self) {
+        let Reading {
+            names: _names,
+            titles: _titles,
+        } = self;
+    }
+}
+
 /// The entries that were read so far, in order, which are found by their names.
-#[derive(Drop)]
 pub(crate) struct Entries {
     names: NameSet,
     entries: Vec<Entry>,
+}
+
+impl Drop for Entries {
+    fn drop(self) {
+        let Entries {
+            names: _names,
+            entries: _entries,
+        } = self;
+    }
 }
 
 impl Model for Entries {
