@@ -6,19 +6,37 @@ use adj_tool_answer::RunRequest;
 use adj_tree::{Name, NameList};
 
 /// A head with its independents and its dependents.
-#[derive(Drop)]
 pub struct Request {
     pub head: Name,
     pub vars: NameList,
     pub outvars: NameList,
 }
 
+impl Drop for Request {
+    fn drop(self) {
+        let Request {
+            head: _head,
+            vars: _vars,
+            outvars: _outvars,
+        } = self;
+    }
+}
+
 /// A run of a head, with its independents and its dependents.
-#[derive(Drop)]
 pub struct CheckRequest {
     pub run: RunRequest,
     pub vars: NameList,
     pub outvars: NameList,
+}
+
+impl Drop for CheckRequest {
+    fn drop(self) {
+        let CheckRequest {
+            run: _run,
+            vars: _vars,
+            outvars: _outvars,
+        } = self;
+    }
 }
 
 /// What is wanted of a head: its adjoint, its tangent, or the marks by which the adjoint is written.
