@@ -145,7 +145,7 @@ returns-clause-ends g c u asked =
     let names = f.names ∙ k.names in
     let framed = subst (λ ns. IsFrame ns m.frame.slots.items) (sym f.names) f.framed in
     let count = ap length c.as_slice-count.ensures.members in
-    let front = ap (map entry_seen) (c.truncate.ensures.items ∙ ap (λ j. take j m.frame.slots.items) count) in
+    let front = ap (map entry_seen) (c.truncate.ensures.items ∙ ap (λ (z : Vec (EntrySlot _) Global). take (length c.as_slice-count.result.now) z.items) c.into_slots-slots.ensures ∙ ap (λ j. take j m.frame.slots.items) count) in
     turned us (procedures_of c.args.program.now.program) v u (λ ps w. run_unit g.N.Number.numbers ps w input held.words (Some held.room) c.args.budget) (λ o. EndsWith g.N.Number.numbers (λ (slots : Vec (EntrySlot _) Global). map entry_seen slots.items) o (Ok c.truncate.new.self) m.tape c.log.result)
     (ap units_in c.as_slice.ensures.value ∙ units) (same_unit v u (sym at ∙ asked))
     (done g.N.Number.numbers us v input held c.args.budget (λ (slots : Vec (EntrySlot _) Global). map entry_seen slots.items) c.truncate.new.self m c.log.result ends

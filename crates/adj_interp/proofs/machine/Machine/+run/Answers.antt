@@ -548,6 +548,13 @@ call-hand_back-requires-clause-below g t c =
     let below = subst (AreActualsBelow m.slots.items) (sym c.as_slice-given.ensures.value) c.in_ok-actuals.ensures.below in
     subst (λ (z : Frame _). AreActualsWithin z.slots.items all) (sym frame) (lent_within r all m.names.now m.slots.items outer.slots.items c.requires.framed lent below)
 
+-- the unit is laid out
+pub call-hand_back-requires-clause-laid : goal.call-hand_back-requires-clause-laid
+call-hand_back-requires-clause-laid g t c =
+    let rs = c.args.program.now in
+    let k = subst (IsRoutine (units_in rs)) (sym c.index-program-number.is) (c.requires.program c.args.number c.index-program-number.result c.if-number-program.false) in
+    k.laid
+
 -- what is handed back has the cells of the actuals
 pub call-hand_back-requires-clause-large : goal.call-hand_back-requires-clause-large
 call-hand_back-requires-clause-large g t c =

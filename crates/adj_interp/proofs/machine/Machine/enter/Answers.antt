@@ -1,7 +1,6 @@
 use Rattle.std.proofs.Common.{rules, vec_len, ◌≡◌, suc, ◌∷◌, length, ap, ap₂, sym, subst, ◌∙◌, arith}
 use Rattle.def_meaning.specs.Event.{Enter}
 use Rattle.adj_interp_frame.specs.declared.frame.Frame.{Frame}
-use Rattle.adj_interp_frame.specs.Shown.{Shows}
 use Rattle.adj_interp.specs.Tallied.{Tallied, with_entry}
 use Rattle.adj_interp.specs.Held.{Tells}
 use Rattle.adj_interp_frame.specs.Lent.{AreLent, AreFilled, HaveLent}

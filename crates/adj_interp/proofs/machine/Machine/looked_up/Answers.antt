@@ -1,9 +1,8 @@
 use Rattle.std.proofs.Common.{rules, ◌≡◌, ◌-◌, w64, sym, ap, ◌∙◌}
 use Rattle.std.proofs.lemmas.Int.{to_z-of_z}
 use Rattle.def_meaning.specs.Runtime.{steps_of, snapshots_of, action_at}
-use Rattle.std.specs.Prelude.{slice_get, Err}
+use Rattle.std.specs.Prelude.{Err}
 use Rattle.adj_revolve.specs.Schedule.{schedule_of}
-use Rattle.adj_interp.specs.Tallied.{Plan, planned}
 use Rattle.adj_interp_frame.specs.Framed.{trap_of, result_of}
 use Rattle.adj_interp.proofs.Plans.{looked_up, found_within}
 use Rattle.adj_interp.proofs.machine.Machine.looked_up.Goals as goal
