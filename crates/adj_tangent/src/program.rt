@@ -68,8 +68,7 @@ fn found_by_names(
 {
     let mut set = NameSet::new(alloc)?;
     add_names(alloc, &mut set, names)?;
-    let found = found_units(alloc, flags, units, &set, head)?;
-    Ok(found)
+    found_units(alloc, flags, units, &set, head)
 }
 
 // The names of the units of the source, and those of the tangents that are emitted.
