@@ -282,9 +282,9 @@ impl Parser {
         ensures { Gives (λ _. state_of self.new) result (trees.follow mode (state_of self.old) stated.now left) }
     {
         let bounds = Bounds::of(mode);
+        let mark = stated.mark.copy(alloc)?;
         let found = said(alloc, stated, bounds.depth)?;
         let said = self.checked(bounds, stated, left, found)?;
-        let mark = stated.mark.copy(alloc)?;
         self.place(alloc, stated.line, stated.label, mark, said)?;
         self.room = self.room.saturating_sub(1);
         Ok(())
