@@ -7,8 +7,6 @@ mod carrying;
 #[cfg(test)]
 mod columns;
 #[cfg(test)]
-mod common;
-#[cfg(test)]
 mod counting;
 #[cfg(test)]
 mod grouping;

@@ -6,60 +6,49 @@ use adj_naming::taken::Taken;
 use adj_sets::NameSet;
 use adj_tree::{Memory, Name};
 use std::alloc::Global;
-use std::test::Fail;
 
-// The names that are given for XB, one after the other, where it is taken.
-fn given_twice(alloc: Global) -> Result<(Name, Name), Memory> {
+// Whether a base gets this name.
+fn gives(alloc: Global, taken: &mut Taken, base: &[u8], wanted: &[u8]) -> Result<bool, Memory> {
+    Ok(taken.give(alloc, base)?.bytes() == wanted)
+}
+
+// Whether XB gets these names, one after the other, where it is taken.
+fn are_given(alloc: Global, one: &[u8], other: &[u8]) -> Result<bool, Memory> {
     let mut shared = NameSet::new(alloc)?;
     shared.add(alloc, b"XB")?;
     let mut taken = Taken::new(alloc, &shared, &[])?;
-    let first = taken.give(alloc, b"XB")?;
-    let second = taken.give(alloc, b"XB")?;
-    Ok((first, second))
+    let first = gives(alloc, &mut taken, b"XB", one)?;
+    let second = gives(alloc, &mut taken, b"XB", other)?;
+    Ok(first && second)
 }
 
-// The name of the third counter in a unit that has it, beside these variables.
-fn third_counter(alloc: Global, variables: &[Name]) -> Result<Name, Memory> {
-    let taken = not_free(alloc, &[])?;
+#[test]
+fn a_taken_name_is_not_given_again(rt: HostRuntime) {
+    assert!(rt; are_given(rt.alloc(), b"XB_1", b"XB_2") == Ok(true));
+}
+
+// Whether the third counter of a unit that has it, and a variable of the name that it would have, has this name.
+fn is_third(alloc: Global, variable: &[u8], wanted: &[u8]) -> Result<bool, Memory> {
     let helpers = [Helper {
         role: Role::Count,
         number: 3,
     }];
-    let n = names(alloc, &taken, variables, &[], &helpers)?;
-    let name = n.helper(alloc, Role::Count, 3)?;
-    Ok(name)
-}
-
-// The name of the second counter in a unit that has none.
-fn counter_of_none(alloc: Global) -> Result<Name, Memory> {
+    let variables = [Name::from_slice(alloc, variable)?];
     let taken = not_free(alloc, &[])?;
-    let n = names(alloc, &taken, &[], &[], &[])?;
-    let name = n.helper(alloc, Role::Count, 2)?;
-    Ok(name)
+    let names = names(alloc, &taken, &variables, &[], &helpers)?;
+    Ok(names.helper(alloc, Role::Count, 3)?.bytes() == wanted)
 }
 
-#[test]
-fn a_taken_name_is_not_given_again(rt: HostRuntime) -> Result<(), Fail> {
-    let (first, second) = given_twice(rt.alloc())?;
-    let one: &[u8] = b"XB_1";
-    let other: &[u8] = b"XB_2";
-    assert!(rt; first.bytes() == one && second.bytes() == other);
-    Ok(())
+// Whether the second counter of a unit that has none has this name.
+fn is_of_none(alloc: Global, wanted: &[u8]) -> Result<bool, Memory> {
+    let taken = not_free(alloc, &[])?;
+    let names = names(alloc, &taken, &[], &[], &[])?;
+    Ok(names.helper(alloc, Role::Count, 2)?.bytes() == wanted)
 }
 
+// A helper that a unit has not has a name that no text has.
 #[test]
-fn a_helper_has_a_name_that_is_free(rt: HostRuntime) -> Result<(), Fail> {
-    let variables = [Name::from_slice(rt.alloc(), b"ADL3")?];
-    let name = third_counter(rt.alloc(), &variables)?;
-    let free: &[u8] = b"ADL3_1";
-    assert!(rt; name.bytes() == free);
-    Ok(())
-}
-
-#[test]
-fn what_a_unit_has_not_is_outside_all_texts(rt: HostRuntime) -> Result<(), Fail> {
-    let name = counter_of_none(rt.alloc())?;
-    let outside: &[u8] = &[0, 2, 5, 50];
-    assert!(rt; name.bytes() == outside);
-    Ok(())
+fn a_helper_has_a_name_that_is_free(rt: HostRuntime) {
+    assert!(rt; is_third(rt.alloc(), b"ADL3", b"ADL3_1") == Ok(true));
+    assert!(rt; is_of_none(rt.alloc(), &[0, 2, 5, 50]) == Ok(true));
 }

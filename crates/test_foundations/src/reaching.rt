@@ -1,63 +1,66 @@
 //! Worked graphs, and large ones that end at once.
 
-ghost use Rattle.std.specs.Prelude.{◌<◌, All, IfOk};
+ghost use Rattle.std.specs.Prelude.{◌<◌, All, IfOk, length};
 ghost use Rattle.adj_reach.specs.Edges.{AreBelow};
 ghost use Rattle.adj_reach.specs.Arcs.{IsWithin};
 
 use adj_reach::{Arc, Kind, reach, reach_back, spread};
 use adj_tree::Memory;
 use std::alloc::Global;
-use std::test::Fail;
 
 // Five nodes: a cycle of 1 and 2 that 0 leads into, 3 behind it, and 4 that leads to 3 alone.
 const CYCLE: [(usize, usize); 5] = [(0, 1), (1, 2), (2, 1), (2, 3), (4, 3)];
 
-#[test]
-fn along_and_against_the_edges_of_a_cycle(rt: HostRuntime) -> Result<(), Fail> {
-    let cases = [
-        (
-            0,
-            [true, true, true, true, false],
-            [true, false, false, false, false],
-        ),
-        (
-            2,
-            [false, true, true, true, false],
-            [true, true, true, false, false],
-        ),
-        (
-            3,
-            [false, false, false, true, false],
-            [true, true, true, true, true],
-        ),
-        (
-            4,
-            [false, false, false, true, true],
-            [false, false, false, false, true],
-        ),
-    ];
-    for case in &cases {
-        let (start, along, against) = *case;
-        let forward = reach(rt.alloc(), 5, CYCLE.as_slice(), [start].as_slice())?;
-        assert_eq!(rt; forward.as_slice(), along.as_slice(), "from {start}");
-        let backward = reach_back(rt.alloc(), 5, CYCLE.as_slice(), [start].as_slice())?;
-        assert_eq!(rt; backward.as_slice(), against.as_slice(), "to {start}");
-    }
-    Ok(())
+// Whether these nodes are reached from some of the first, along the edges.
+fn leads(
+    alloc: Global,
+    edges: &[(usize, usize)],
+    start: &[usize],
+    wanted: &[bool],
+) -> Result<bool, Memory>
+    requires few { length wanted.now < 1000 }
+    requires edges { AreBelow (length wanted.now) edges.now }
+    requires start { All (λ x. x < length wanted.now) start.now }
+{
+    let found = reach(alloc, wanted.len(), edges, start)?;
+    Ok(found.as_slice() == wanted)
+}
+
+// Whether these nodes lead to some of the first.
+fn leads_back(
+    alloc: Global,
+    edges: &[(usize, usize)],
+    start: &[usize],
+    wanted: &[bool],
+) -> Result<bool, Memory>
+    requires few { length wanted.now < 1000 }
+    requires edges { AreBelow (length wanted.now) edges.now }
+    requires start { All (λ x. x < length wanted.now) start.now }
+{
+    let found = reach_back(alloc, wanted.len(), edges, start)?;
+    Ok(found.as_slice() == wanted)
 }
 
 #[test]
-fn from_several_nodes_and_from_none(rt: HostRuntime) -> Result<(), Fail> {
-    let several = reach(rt.alloc(), 5, CYCLE.as_slice(), [4, 1].as_slice())?;
-    assert_eq!(rt;
-        several.as_slice(),
-        [false, true, true, true, true].as_slice()
-    );
-    let none = reach(rt.alloc(), 2, [(0, 1)].as_slice(), [].as_slice())?;
-    assert_eq!(rt; none.as_slice(), [false, false].as_slice());
-    let nothing = reach(rt.alloc(), 0, [].as_slice(), [].as_slice())?;
-    assert!(rt; nothing.as_slice().is_empty());
-    Ok(())
+fn along_and_against_the_edges_of_a_cycle(rt: HostRuntime) {
+    let alloc = rt.alloc();
+    let along = [
+        leads(alloc, &CYCLE, &[0], &[true, true, true, true, false]),
+        leads(alloc, &CYCLE, &[2], &[false, true, true, true, false]),
+        leads(alloc, &CYCLE, &[3], &[false, false, false, true, false]),
+        leads(alloc, &CYCLE, &[4], &[false, false, false, true, true]),
+        leads(alloc, &CYCLE, &[4, 1], &[false, true, true, true, true]),
+        leads(alloc, &[(0, 1)], &[], &[false, false]),
+        leads(alloc, &[], &[], &[]),
+    ];
+    assert!(rt; along == [Ok(true); 7], "{along:?}");
+    let against = [
+        leads_back(alloc, &CYCLE, &[0], &[true, false, false, false, false]),
+        leads_back(alloc, &CYCLE, &[2], &[true, true, true, false, false]),
+        leads_back(alloc, &CYCLE, &[3], &[true, true, true, true, true]),
+        leads_back(alloc, &CYCLE, &[4], &[false, false, false, false, true]),
+    ];
+    assert!(rt; against == [Ok(true); 4], "{against:?}");
 }
 
 // The edges of a chain of `nodes` nodes, the last first.
@@ -72,48 +75,55 @@ fn chain_backwards(alloc: Global, nodes: usize) -> Result<Vec<(usize, usize)>, M
     Ok(edges)
 }
 
+// Whether the first node of a long chain leads to all, and all lead to the last.
+fn leads_along(alloc: Global) -> Result<bool, Memory> {
+    let edges = chain_backwards(alloc, 200_001)?;
+    let forward = reach(alloc, 200_001, edges.as_slice(), &[0])?;
+    if forward.as_slice().contains(&false) {
+        return Ok(false);
+    }
+    let backward = reach_back(alloc, 200_001, edges.as_slice(), &[200_000])?;
+    Ok(!backward.as_slice().contains(&false))
+}
+
 #[test]
-fn a_long_chain_listed_backwards_ends_at_once(rt: HostRuntime) -> Result<(), Fail> {
-    let edges = chain_backwards(rt.alloc(), 200_001)?;
-    let forward = reach(rt.alloc(), 200_001, edges.as_slice(), [0].as_slice())?;
-    assert!(rt; forward.as_slice().iter().all(|flag| *flag));
-    let backward = reach_back(rt.alloc(), 200_001, edges.as_slice(), [200_000].as_slice())?;
-    assert!(rt; backward.as_slice().iter().all(|flag| *flag));
-    Ok(())
+fn a_long_chain_listed_backwards_ends_at_once(rt: HostRuntime) {
+    assert!(rt; leads_along(rt.alloc()) == Ok(true));
 }
 
 // Three points of two variables: variable 1 stays on the way from 0 to 1, where 0 is replaced by it; from 1 to 2 both stay; and back from 2 to 1.
+const ARCS: [Arc; 4] = [
+    Arc {
+        from: 0,
+        kind: Kind::Keep(1, 0),
+    },
+    Arc {
+        from: 0,
+        kind: Kind::Turn(1, 2),
+    },
+    Arc {
+        from: 1,
+        kind: Kind::Keep(2, 2),
+    },
+    Arc {
+        from: 2,
+        kind: Kind::Keep(1, 2),
+    },
+];
+
+// Whether a variable at the first point leads to these.
+fn spreads(alloc: Global, start: usize, wanted: &[bool]) -> Result<bool, Memory>
+    requires { start < 2 }
+{
+    let found = spread(alloc, 3, 2, &ARCS, &[start])?;
+    Ok(found.as_slice() == wanted)
+}
+
 #[test]
-fn variables_stay_but_for_one_or_turn_into_another(rt: HostRuntime) -> Result<(), Fail> {
-    let arcs = [
-        Arc {
-            from: 0,
-            kind: Kind::Keep(1, 0),
-        },
-        Arc {
-            from: 0,
-            kind: Kind::Turn(1, 2),
-        },
-        Arc {
-            from: 1,
-            kind: Kind::Keep(2, 2),
-        },
-        Arc {
-            from: 2,
-            kind: Kind::Keep(1, 2),
-        },
-    ];
-    let from_first = spread(rt.alloc(), 3, 2, arcs.as_slice(), [0].as_slice())?;
-    assert_eq!(rt;
-        from_first.as_slice(),
-        [true, false, false, false, false, false].as_slice()
-    );
-    let from_second = spread(rt.alloc(), 3, 2, arcs.as_slice(), [1].as_slice())?;
-    assert_eq!(rt;
-        from_second.as_slice(),
-        [false, true, true, true, true, true].as_slice()
-    );
-    Ok(())
+fn variables_stay_but_for_one_or_turn_into_another(rt: HostRuntime) {
+    let alloc = rt.alloc();
+    assert!(rt; spreads(alloc, 0, &[true, false, false, false, false, false]) == Ok(true));
+    assert!(rt; spreads(alloc, 1, &[false, true, true, true, true, true]) == Ok(true));
 }
 
 // The arcs of a chain of points, the last first, on which each of `width` variables stays.
@@ -142,11 +152,15 @@ fn numbers(alloc: Global, count: usize) -> Result<Vec<usize>, Memory>
     Ok(numbers)
 }
 
+// Whether each variable at the first of many points leads to itself at all of them.
+fn spread_along(alloc: Global) -> Result<bool, Memory> {
+    let arcs = ways_backwards(alloc, 20_000, 200)?;
+    let start = numbers(alloc, 200)?;
+    let flags = spread(alloc, 20_000, 200, arcs.as_slice(), start.as_slice())?;
+    Ok(!flags.as_slice().contains(&false))
+}
+
 #[test]
-fn many_variables_over_many_points_end_at_once(rt: HostRuntime) -> Result<(), Fail> {
-    let arcs = ways_backwards(rt.alloc(), 20_000, 200)?;
-    let start = numbers(rt.alloc(), 200)?;
-    let flags = spread(rt.alloc(), 20_000, 200, arcs.as_slice(), start.as_slice())?;
-    assert!(rt; flags.as_slice().iter().all(|flag| *flag));
-    Ok(())
+fn many_variables_over_many_points_end_at_once(rt: HostRuntime) {
+    assert!(rt; spread_along(rt.alloc()) == Ok(true));
 }

@@ -1,27 +1,21 @@
 //! A tape at work.
 
-use adj_tape::{Full, Tape};
-use std::test::Fail;
+use adj_tape::{Full, Memory, Tape};
 
-#[test]
-fn words_come_back_in_the_other_order(rt: HostRuntime) -> Result<(), Fail> {
-    let mut tape = Tape::<i64>::with_room(rt.alloc(), 2)?;
-    assert_eq!(rt; tape.room(), 2);
-    assert_eq!(rt; tape.push(7), Ok(()));
-    assert_eq!(rt; tape.push(-8), Ok(()));
-    assert_eq!(rt; tape.push(9), Err(Full));
-    assert_eq!(rt; tape.len(), 2);
-    assert_eq!(rt; tape.pop(), Some(-8));
-    assert_eq!(rt; tape.pop(), Some(7));
-    assert_eq!(rt; tape.pop(), None);
-    assert_eq!(rt; tape.len(), 0);
-    Ok(())
+// Whether a tape with room for two words gives them back in the other order, and takes no third.
+fn gives_back(tape: &mut Tape<i64>) -> bool {
+    let room = tape.room();
+    let pushed = [tape.push(7), tape.push(-8), tape.push(9)];
+    let held = tape.len();
+    let popped = [tape.pop(), tape.pop(), tape.pop()];
+    pushed == [Ok(()), Ok(()), Err(Full)]
+        && popped == [Some(-8), Some(7), None]
+        && [room, held, tape.len()] == [2, 2, 0]
 }
 
 #[test]
-fn a_tape_without_room_takes_no_word(rt: HostRuntime) -> Result<(), Fail> {
-    let mut tape = Tape::<i64>::with_room(rt.alloc(), 0)?;
-    assert_eq!(rt; tape.push(1), Err(Full));
-    assert_eq!(rt; tape.pop(), None);
+fn words_come_back_in_the_other_order(rt: HostRuntime) -> Result<(), Memory> {
+    let mut tape = Tape::with_room(rt.alloc(), 2)?;
+    assert!(rt; gives_back(&mut tape));
     Ok(())
 }
