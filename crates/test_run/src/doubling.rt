@@ -11,9 +11,8 @@ ghost use Rattle.adj_interp_frame.specs.Suited.{HasOneCell, IsSuited, AreSuited}
 use adj_interp::{Machine, Spare, Stop, Tally};
 use adj_interp_frame::{Cell, Frame, Slot, Step, Steps, Task, Term, Terms, Test};
 use adj_tape::Tape;
-use adj_tree::{Items, Memory, Name, NameList, Op, Rel};
+use adj_tree::{Items, Memory, Name, NameList, Op, Rel, Trap};
 use std::alloc::Global;
-use std::test::Fail;
 
 // The names R, I and N.
 fn names(alloc: Global) -> Result<NameList, Memory>
@@ -112,15 +111,18 @@ fn doubling(alloc: Global) -> Result<Steps, Memory>
     assign(alloc, 0, Term::Lit(1), counted)
 }
 
+// What the statements come to where N is 5 and so many may run: how they end, how many are left, and R.
+fn ended(alloc: Global, left: u64) -> Result<(Result<(), Stop>, u64, Result<i64, Trap>), Memory> {
+    let names = names(alloc)?;
+    let steps = assign(alloc, 2, Term::Lit(5), doubling(alloc)?)?;
+    let mut machine = machine(alloc, &names, left)?;
+    let end = machine.run(&[], 0, &steps);
+    Ok((end, machine.left, machine.frame.value(&Term::Var(0))))
+}
+
+// The last test isn't counted where no statement is left.
 #[test]
-fn a_do_while_counts_each_test(rt: HostRuntime) -> Result<(), Fail> {
-    let names = names(rt.alloc())?;
-    let steps = assign(rt.alloc(), 2, Term::Lit(5), doubling(rt.alloc())?)?;
-    let mut enough = machine(rt.alloc(), &names, 19)?;
-    assert_eq!(rt; enough.run(&[], 0, &steps), Ok(()));
-    assert_eq!(rt; enough.left, 0);
-    assert_eq!(rt; enough.frame.value(&Term::Var(0)), Ok(32));
-    let mut short = machine(rt.alloc(), &names, 18)?;
-    assert_eq!(rt; short.run(&[], 0, &steps), Err(Stop::Budget));
-    Ok(())
+fn a_do_while_counts_each_test(rt: HostRuntime) {
+    assert!(rt; ended(rt.alloc(), 19) == Ok((Ok(()), 0, Ok(32))));
+    assert!(rt; ended(rt.alloc(), 18) == Ok((Err(Stop::Budget), 0, Ok(32))));
 }

@@ -1,11 +1,10 @@
-//! Dual runs of the first unit of a text. (docs/RUNNING.md, "Dual runs")
+//! Dual runs of the first unit of a text. (docs/RUNNING.md, "Dual runs") More stand in the golden cases of `check` in tests/.
 
 use crate::running::{checked, first_words, scalars, suits};
 use adj_interp::{Stop, run_dual};
 use adj_symbols::Checked;
 use adj_tree::{Memory, Trap};
 use std::alloc::Global;
-use std::test::Fail;
 
 // How a dual run ends: its stop, or the words of the dummies and their tangents.
 #[derive(Drop)]
@@ -70,16 +69,7 @@ fn holds(alloc: Global, case: &Case) -> Result<bool, Memory> {
     )
 }
 
-const CASES: [Case; 12] = [
-    // a square
-    Case {
-        text: "SUBROUTINE P(I,J)\nJ=I*I\nEND",
-        words: &[3, 0],
-        tangents: &[2, 5],
-        stop: None,
-        ends: &[3, 9],
-        moves: &[2, 12],
-    },
+const CASES: [Case; 4] = [
     // the least word, whose negation it is itself, as a word and as a tangent
     Case {
         text: "SUBROUTINE P(I,J)\nJ=-I\nEND",
@@ -107,60 +97,6 @@ const CASES: [Case; 12] = [
         ends: &[2, 8, 4],
         moves: &[1, 12, 0],
     },
-    // the same by an exponent, whose tangent plays no part
-    Case {
-        text: "SUBROUTINE P(I,J,K)\nJ=I**K\nEND",
-        words: &[2, 0, 3],
-        tangents: &[1, 0, 9],
-        stop: None,
-        ends: &[2, 8, 3],
-        moves: &[1, 12, 9],
-    },
-    // one way of a branch
-    Case {
-        text: "SUBROUTINE P(I,J)\nIF (I.GT.0) THEN\nJ=3*I\nELSE\nJ=-I\nEND IF\nEND",
-        words: &[2, 0],
-        tangents: &[4, 0],
-        stop: None,
-        ends: &[2, 6],
-        moves: &[4, 12],
-    },
-    // and the other
-    Case {
-        text: "SUBROUTINE P(I,J)\nIF (I.GT.0) THEN\nJ=3*I\nELSE\nJ=-I\nEND IF\nEND",
-        words: &[-2, 0],
-        tangents: &[4, 0],
-        stop: None,
-        ends: &[-2, 2],
-        moves: &[4, -4],
-    },
-    // a call hands tangents over and back
-    Case {
-        text: "SUBROUTINE P(I,J)\nCALL Q(I+I,J)\nEND\nSUBROUTINE Q(K,L)\nL=K*K-L\nEND",
-        words: &[3, 4],
-        tangents: &[1, 6],
-        stop: None,
-        ends: &[3, 32],
-        moves: &[1, 18],
-    },
-    // MAX and MIN at a tie are their first arguments
-    Case {
-        text: "SUBROUTINE P(I,J,K,L)\nK=MAX(I,J)\nL=MIN(J,I)\nEND",
-        words: &[5, 5, 0, 0],
-        tangents: &[1, 2, 0, 0],
-        stop: None,
-        ends: &[5, 5, 5, 5],
-        moves: &[1, 2, 1, 2],
-    },
-    // a quotient as a factor has no tangent
-    Case {
-        text: "SUBROUTINE P(I,J,K)\nK=(I/J)*I\nEND",
-        words: &[7, 2, 0],
-        tangents: &[1, 5, 0],
-        stop: None,
-        ends: &[7, 2, 21],
-        moves: &[1, 5, 3],
-    },
     // a trap, at its line
     Case {
         text: "SUBROUTINE P(I,J)\nJ=I\nJ=J/I\nEND",
@@ -170,21 +106,11 @@ const CASES: [Case; 12] = [
         ends: &[],
         moves: &[],
     },
-    // no end
-    Case {
-        text: "SUBROUTINE P(I)\nDO WHILE (I.EQ.0)\nI=I*I\nEND DO\nEND",
-        words: &[0],
-        tangents: &[1],
-        stop: Some(Stop::Budget),
-        ends: &[],
-        moves: &[],
-    },
 ];
 
 #[test]
-fn tangents_follow_the_run(rt: HostRuntime) -> Result<(), Fail> {
+fn tangents_follow_the_run(rt: HostRuntime) {
     for case in &CASES {
-        assert!(rt; holds(rt.alloc(), case)?);
+        assert!(rt; holds(rt.alloc(), case) == Ok(true));
     }
-    Ok(())
 }

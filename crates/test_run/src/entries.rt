@@ -1,9 +1,8 @@
-//! Data and their faults.
+//! Data that are read and printed. Their faults stand in the golden cases of tests/.
 
-use adj_data::{DataError, print_values, values};
-use adj_tree::{Decl, Extent, Extents, Items, Memory, Name, Stmts, Unit, boxed};
+use adj_data::{DataError, check_values, print_values, values};
+use adj_tree::{Decl, Extent, Extents, Head, Items, Memory, Name, Stmts, Unit, Values, boxed};
 use std::alloc::Global;
-use std::test::Fail;
 
 fn name(alloc: Global, text: &str) -> Result<Name, Memory> {
     Name::from_slice(alloc, text.as_bytes())
@@ -19,7 +18,7 @@ fn decl(alloc: Global, text: &str, extents: Vec<Extent>) -> Result<Decl, Memory>
 }
 
 // SUBROUTINE P(A,N,K) with INTEGER*8 A(N,2),N,K.
-pub(crate) fn unit(alloc: Global) -> Result<Box<Unit>, Memory> {
+fn unit(alloc: Global) -> Result<Box<Unit>, Memory> {
     let extents = vec![in alloc; Extent::Dummy(name(alloc, "N")?), Extent::Lit(2)]?;
     let decls = vec![in alloc;
         decl(alloc, "A", extents)?,
@@ -38,113 +37,84 @@ pub(crate) fn unit(alloc: Global) -> Result<Box<Unit>, Memory> {
     boxed(alloc, unit)
 }
 
+// Whether the first values are those of an array of two rows and two columns.
+fn begin_with_a_square(values: &Values) -> bool {
+    match values.as_slice().first() {
+        Some(slot) => slot.rows == 2 && slot.cols == 2,
+        None => false,
+    }
+}
+
+// Whether data give such an array first, and are printed so.
+fn are_read(alloc: Global, unit: &Unit, data: &[u8], wanted: &[u8]) -> Result<bool, DataError> {
+    let values = values(alloc, data, 4, unit)?;
+    let printed = print_values(alloc, &unit.dummies, &values)?;
+    Ok(printed.as_slice() == wanted && begin_with_a_square(&values))
+}
+
 #[test]
 fn entries_in_any_order_and_over_lines_are_printed_in_the_order_of_dummies(
     rt: HostRuntime,
-) -> Result<(), Fail> {
+) -> Result<(), Memory> {
     let unit = unit(rt.alloc())?;
     let data = b"n 2\r\n  k\n\n -007\nA 1 2\n 3   -9223372036854775808 \n";
-    let values = values(rt.alloc(), data.as_slice(), 4, &unit)?;
-    let printed = print_values(rt.alloc(), &unit.dummies, &values)?;
-    assert_eq!(rt;
-        printed.as_slice(),
-        b"A 1 2 3 -9223372036854775808\nN 2\nK -7\n".as_slice()
-    );
-    assert_eq!(rt; values.as_slice()[0].rows, 2);
-    assert_eq!(rt; values.as_slice()[0].cols, 2);
+    let wanted = b"A 1 2 3 -9223372036854775808\nN 2\nK -7\n";
+    assert!(rt; are_read(rt.alloc(), &unit, data, wanted) == Ok(true));
     Ok(())
 }
 
-#[test]
-fn line_ends_and_signs_of_zero_mean_nothing(rt: HostRuntime) -> Result<(), Fail> {
-    let unit = unit(rt.alloc())?;
-    let data = b"A -0 00\r\nN 1\r\nK 1\r\n";
-    let values = values(rt.alloc(), data.as_slice(), 4, &unit)?;
-    let printed = print_values(rt.alloc(), &unit.dummies, &values)?;
-    assert_eq!(rt; printed.as_slice(), b"A 0 0\nN 1\nK 1\n".as_slice());
-    Ok(())
+// A is independent, and K dependent.
+fn head(alloc: Global) -> Result<Box<Head>, Memory> {
+    let head = Head {
+        unit: 0,
+        vars: Items::new(vec![in alloc; true, false, false]?),
+        outvars: Items::new(vec![in alloc; false, false, true]?),
+    };
+    boxed(alloc, head)
 }
 
-// The data stand behind line 4, so their first line is line 5.
-const FAULTS: [(&str, u8, u32); 54] = [
-    // Items that are neither names nor numbers, names that don't lead their line, and numbers before any name.
-    ("A 1 2\nK 0\n1x\n", 1, 7),
-    ("7 A 1 2", 1, 5),
-    ("-5", 1, 5),
-    ("\n\n3", 1, 7),
-    ("K 0 N 1", 1, 5),
-    ("K 1\n N 2 A", 1, 6),
-    ("K 0\tN 1", 1, 5),
-    ("K +1", 1, 5),
-    ("K -", 1, 5),
-    ("K --1", 1, 5),
-    ("K 1-", 1, 5),
-    ("K 1.0", 1, 5),
-    ("K 1,2", 1, 5),
-    ("K 1e3", 1, 5),
-    ("K=1", 1, 5),
-    ("_K 1", 1, 5),
-    ("K.D 1", 1, 5),
-    ("K.B 1", 1, 5),
-    // Names that aren't dummies.
-    ("\nQ 1", 2, 6),
-    ("P 1", 2, 5),
-    ("K_ 1", 2, 5),
-    ("KK 1", 2, 5),
-    ("n 1\nb 2", 2, 6),
-    ("B 1\nK 9223372036854775808", 2, 5),
-    // Names that were given before.
-    ("K 1\nk 2", 3, 6),
-    ("N\nN", 3, 6),
-    ("A 1\nN 1\nA 2", 3, 7),
-    // Numbers out of range.
-    ("K 9223372036854775808", 6, 5),
-    ("K -9223372036854775809 Q", 6, 5),
-    ("K 99999999999999999999999999999999999999999", 6, 5),
-    ("K 00000000000000000000000009223372036854775808", 6, 5),
-    ("K 1\n\nN 2\n18446744073709551616", 6, 8),
-    ("A 1 2 -9223372036854775809\nB 1", 6, 5),
-    // Dummies without an entry.
-    ("", 4, 0),
-    ("\n\n", 4, 0),
-    ("K 1\nN 1", 4, 0),
-    ("A 1 2\nN 1", 4, 0),
-    ("A 1 2\nK 1", 4, 0),
-    ("N 1 1\nK 1", 4, 0),
-    // Extents that no array has.
-    ("K 1\nA 1 2\nN 0", 7, 6),
-    ("K 1\nA 1 2\nN -1", 7, 6),
-    ("K 1\nA 1 2\nN 524289", 7, 6),
-    ("K 1\nA\nN 9223372036854775807", 7, 6),
-    ("K 1 1\nA 1 2\nN 0", 7, 6),
-    // Other counts of numbers than of elements; an extent without one number leaves the array alone.
-    ("K 1\nA 1 2 3\nN 1", 5, 6),
-    ("K 1\nA 1\nN 1", 5, 6),
-    ("K 1\nA\nN 1", 5, 6),
-    ("K 1\nA 1\nN 524288", 5, 6),
-    ("K 1\nA 1 2\nN 1 1", 5, 7),
-    ("N\nA 1 2\nK 1", 5, 5),
-    ("K 1\nN 1 1\nA 1 2 3", 5, 6),
-    ("K\nA 1 2\nN 1", 5, 5),
-    ("K 1 2\nA 1 2\nN 1", 5, 5),
-    ("K 1 2\nA 1 2 3\nN 1", 5, 6),
-];
-
-// The number of a fault's code, and its line.
-pub(crate) fn code_and_line(error: Option<DataError>) -> Option<(u8, u32)> {
-    match error {
-        Some(DataError::Data(code, line)) => Some((code.number(), line)),
-        _ => None,
+// Whether values are printed so.
+fn are_printed(alloc: Global, unit: &Unit, values: &Values, wanted: &[u8]) -> bool {
+    if values.as_slice().len() != unit.dummies.as_slice().len() {
+        return false;
+    }
+    match print_values(alloc, &unit.dummies, values) {
+        Ok(printed) => printed.as_slice() == wanted,
+        Err(Memory) => false,
     }
 }
 
-#[test]
-fn the_first_fault_is_given(rt: HostRuntime) -> Result<(), Fail> {
-    let unit = unit(rt.alloc())?;
-    for case in &FAULTS {
-        let (data, code, line) = *case;
-        let found = values(rt.alloc(), data.as_bytes(), 4, &unit);
-        assert_eq!(rt; code_and_line(found.err()), Some((code, line)), "{data}");
+// Whether data give these values, tangents and adjoints.
+fn are_checked(
+    alloc: Global,
+    unit: &Unit,
+    head: &Head,
+    data: &[u8],
+    wanted: &[&[u8]; 3],
+) -> Result<bool, DataError> {
+    let count = unit.dummies.as_slice().len();
+    if head.vars.as_slice().len() != count || head.outvars.as_slice().len() != count {
+        return Ok(false);
     }
+    let (inputs, tangents, adjoints) = check_values(alloc, data, 4, unit, head)?;
+    Ok(
+        are_printed(alloc, unit, &inputs, wanted[0])
+            && are_printed(alloc, unit, &tangents, wanted[1])
+            && are_printed(alloc, unit, &adjoints, wanted[2]),
+    )
+}
+
+#[test]
+fn tangents_and_adjoints_that_are_not_given_are_zeros(rt: HostRuntime) -> Result<(), Memory> {
+    let alloc = rt.alloc();
+    let unit = unit(alloc)?;
+    let head = head(alloc)?;
+    let data = b"k.b 7\nN 1\na.D 5\n -6\nK 3\nA 1 2\n";
+    let wanted: [&[u8]; 3] = [
+        b"A 1 2\nN 1\nK 3\n",
+        b"A 5 -6\nN 0\nK 0\n",
+        b"A 0 0\nN 0\nK 7\n",
+    ];
+    assert!(rt; are_checked(alloc, &unit, &head, data, &wanted) == Ok(true));
     Ok(())
 }

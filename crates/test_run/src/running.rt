@@ -1,4 +1,4 @@
-//! Runs of the first unit of a text. (docs/RUNNING.md)
+//! Runs of the first unit of a text (docs/RUNNING.md), with what no command writes: the words on the tape, and what was counted where a run stops.
 
 ghost use Rattle.std.specs.Prelude.{◌≡◌, IfOk, length, map, true};
 ghost use Rattle.test_run.specs.Scalars.{scalar_of};
@@ -10,7 +10,6 @@ use adj_tape::Tape;
 use adj_tool_answer::read;
 use adj_tree::{Fault, Items, Memory, Slot, Trap, Unit, Values};
 use std::alloc::Global;
-use std::test::Fail;
 
 // How a run ends: its stop, the words of the dummies, what it counted, and how many words stand on the tape.
 #[derive(Drop)]
@@ -121,7 +120,7 @@ struct Case {
     room: u64,
     stop: Option<Stop>,
     ends: &'static [i64],
-    used: u64,
+    log: Log,
     tape: &'static [i64],
 }
 
@@ -135,80 +134,11 @@ fn holds(alloc: Global, case: &Case) -> Result<bool, Memory> {
         ended.stop == case.stop
             && ended.words.as_slice() == case.ends
             && ended.tape.as_slice() == case.tape
-            && ended.log.used == case.used,
+            && ended.log == case.log,
     )
 }
 
-const CALLS: [Case; 6] = [
-    // a scalar is handed back
-    Case {
-        text: "SUBROUTINE P(I)\nCALL Q(I)\nEND\nSUBROUTINE Q(K)\nK=K+1\nEND",
-        words: &[4],
-        budget: 2,
-        room: 0,
-        stop: None,
-        ends: &[5],
-        used: 2,
-        tape: &[],
-    },
-    // so is an element, whose subscript is evaluated at the call
-    Case {
-        text: "SUBROUTINE P(I)\nCALL Q(I)\nEND\nSUBROUTINE Q(I)\nINTEGER*8 A(3)\nJ=2\nA(1)=1\nCALL R(A(J),J)\nI=100*A(1)+10*A(2)+A(3)+1000*J\nEND\nSUBROUTINE R(K,L)\nL=3\nK=9\nEND",
-        words: &[0],
-        budget: 7,
-        room: 0,
-        stop: None,
-        ends: &[3190],
-        used: 7,
-        tape: &[],
-    },
-    // and an array whose extent is a dummy
-    Case {
-        text: "SUBROUTINE P(N,I)\nCALL Q(I)\nEND\nSUBROUTINE Q(I)\nINTEGER*8 A(4)\nM=4\nCALL R(A,M)\nI=1000*A(1)+100*A(2)+10*A(3)+A(4)\nEND\nSUBROUTINE R(A,N)\nINTEGER*8 A(N)\nDO K=1,N\nA(K)=K+1\nEND DO\nEND",
-        words: &[0, 0],
-        budget: 13,
-        room: 0,
-        stop: None,
-        ends: &[0, 2345],
-        used: 13,
-        tape: &[],
-    },
-    // an expression is a word
-    Case {
-        text: "SUBROUTINE P(I)\nCALL Q(I+1,I)\nEND\nSUBROUTINE Q(K,L)\nL=10*K\nEND",
-        words: &[4],
-        budget: 2,
-        room: 0,
-        stop: None,
-        ends: &[50],
-        used: 2,
-        tape: &[],
-    },
-    // calls in one another
-    Case {
-        text: "SUBROUTINE P(I,J)\nCALL Q(I,J)\nEND\nSUBROUTINE Q(K,L)\nCALL R(L,K)\nK=K+1\nEND\nSUBROUTINE R(M,N)\nM=10*N\nN=7\nEND",
-        words: &[5, 0],
-        budget: 5,
-        room: 0,
-        stop: None,
-        ends: &[8, 50],
-        used: 5,
-        tape: &[],
-    },
-    // locals begin as 0 at each entry
-    Case {
-        text: "SUBROUTINE P(I)\nCALL Q(I)\nCALL Q(I)\nEND\nSUBROUTINE Q(K)\nL=L+1\nK=K+L\nEND",
-        words: &[0],
-        budget: 6,
-        room: 0,
-        stop: None,
-        ends: &[2],
-        used: 6,
-        tape: &[],
-    },
-];
-
-const STOPS: [Case; 7] = [
+const CASES: [Case; 4] = [
     // a trap in a called unit, at its line
     Case {
         text: "SUBROUTINE P(I)\nCALL Q(I)\nEND\nSUBROUTINE Q(K)\nK=1/K\nEND",
@@ -217,18 +147,12 @@ const STOPS: [Case; 7] = [
         room: 0,
         stop: Some(Stop::Trap(Trap::Division, 5)),
         ends: &[],
-        used: 2,
-        tape: &[],
-    },
-    // an array that doesn't fit its actual, at the line of the CALL
-    Case {
-        text: "SUBROUTINE P(I)\nCALL Q(I)\nEND\nSUBROUTINE Q(N)\nINTEGER*8 A(4)\nCALL R(A,N)\nEND\nSUBROUTINE R(A,N)\nINTEGER*8 A(N)\nA(1)=1\nEND",
-        words: &[3],
-        budget: 9,
-        room: 0,
-        stop: Some(Stop::Trap(Trap::Shape, 6)),
-        ends: &[],
-        used: 2,
+        log: Log {
+            used: 2,
+            reversals: 0,
+            advances: 0,
+            height: 0,
+        },
         tape: &[],
     },
     // the statements run out in a called unit
@@ -239,66 +163,13 @@ const STOPS: [Case; 7] = [
         room: 9,
         stop: Some(Stop::Budget),
         ends: &[],
-        used: 2,
+        log: Log {
+            used: 2,
+            reversals: 0,
+            advances: 0,
+            height: 0,
+        },
         tape: &[8],
-    },
-    // so does the room of the tape
-    Case {
-        text: "SUBROUTINE P(I)\nCALL Q(I)\nEND\nSUBROUTINE Q(K)\nCALL PUSHINTEGER8(K)\nCALL PUSHINTEGER8(K)\nEND",
-        words: &[8],
-        budget: 9,
-        room: 1,
-        stop: Some(Stop::TapeFull),
-        ends: &[],
-        used: 3,
-        tape: &[8],
-    },
-    // a pop from an empty tape
-    Case {
-        text: "SUBROUTINE P(K)\nCALL POPINTEGER8(K)\nEND",
-        words: &[1],
-        budget: 9,
-        room: 0,
-        stop: Some(Stop::Trap(Trap::Tape, 2)),
-        ends: &[],
-        used: 1,
-        tape: &[],
-    },
-    // a reversal that is open at the end of a called unit, at the line of the CALL
-    Case {
-        text: "SUBROUTINE P(I)\nCALL Q(I)\nEND\nSUBROUTINE Q(K)\nCALL ADBEG(K,1)\nEND",
-        words: &[3],
-        budget: 9,
-        room: 0,
-        stop: Some(Stop::Trap(Trap::Schedule, 2)),
-        ends: &[],
-        used: 2,
-        tape: &[],
-    },
-    // and at that of the head, at its own line
-    Case {
-        text: "SUBROUTINE P(I)\nCALL ADBEG(I,1)\nEND",
-        words: &[3],
-        budget: 9,
-        room: 0,
-        stop: Some(Stop::Trap(Trap::Schedule, 1)),
-        ends: &[],
-        used: 1,
-        tape: &[],
-    },
-];
-
-const RUNTIME: [Case; 6] = [
-    // words come back in the other order
-    Case {
-        text: "SUBROUTINE P(I,J)\nCALL PUSHINTEGER8(I)\nCALL PUSHINTEGER8(J)\nCALL POPINTEGER8(I)\nCALL POPINTEGER8(J)\nEND",
-        words: &[1, 2],
-        budget: 4,
-        room: 2,
-        stop: None,
-        ends: &[2, 1],
-        used: 4,
-        tape: &[],
     },
     // an array is pushed in storage order, and popped in the opposite one
     Case {
@@ -308,90 +179,35 @@ const RUNTIME: [Case; 6] = [
         room: 4,
         stop: None,
         ends: &[12],
-        used: 9,
+        log: Log {
+            used: 9,
+            reversals: 0,
+            advances: 0,
+            height: 0,
+        },
         tape: &[2, 1],
     },
-    // the word of a branch
+    // calls directly in a reversal are counted, less its steps, and the words above its start
     Case {
-        text: "SUBROUTINE P(I)\nCALL PUSHCONTROL1B(I+1)\nCALL POPCONTROL1B(I)\nEND",
-        words: &[1],
-        budget: 2,
-        room: 1,
+        text: "SUBROUTINE P(I)\nCALL PUSHINTEGER8(I)\nCALL ADBEG(1,1)\nCALL Q(I)\nCALL PUSHINTEGER8(I)\nCALL Q(I)\nCALL Q(I)\nCALL ADEND\nEND\nSUBROUTINE Q(K)\nK=K+1\nEND",
+        words: &[0],
+        budget: 20,
+        room: 9,
         stop: None,
-        ends: &[2],
-        used: 2,
-        tape: &[],
-    },
-    // an action of a schedule
-    Case {
-        text: "SUBROUTINE P(I,J,K)\nCALL ADACT(3,2,9,I,J,K)\nEND",
-        words: &[0, 0, 0],
-        budget: 1,
-        room: 0,
-        stop: None,
-        ends: &[3, 0, 1],
-        used: 1,
-        tape: &[],
-    },
-    // there is no tenth
-    Case {
-        text: "SUBROUTINE P(I,J,K)\nCALL ADACT(3,2,10,I,J,K)\nEND",
-        words: &[0, 0, 0],
-        budget: 1,
-        room: 0,
-        stop: Some(Stop::Trap(Trap::Schedule, 2)),
-        ends: &[],
-        used: 1,
-        tape: &[],
-    },
-    // the number of actions, and the first of a schedule of which no list fits into memory
-    Case {
-        text: "SUBROUTINE P(I,J,K,N)\nCALL ADACTN(3,2,N)\nCALL ADBEG(1099511627776,2)\nCALL ADACT(1099511627776,2,1,I,J,K)\nCALL ADEND\nEND",
-        words: &[5, 5, 5, 5],
-        budget: 4,
-        room: 0,
-        stop: None,
-        ends: &[1, 0, 0, 9],
-        used: 4,
-        tape: &[],
+        ends: &[3],
+        log: Log {
+            used: 10,
+            reversals: 1,
+            advances: 2,
+            height: 1,
+        },
+        tape: &[1, 0],
     },
 ];
 
 #[test]
-fn calls_hand_back(rt: HostRuntime) -> Result<(), Fail> {
-    for case in &CALLS {
-        assert!(rt; holds(rt.alloc(), case)?);
+fn a_run_tells_its_words_its_tape_and_what_it_counted(rt: HostRuntime) {
+    for case in &CASES {
+        assert!(rt; holds(rt.alloc(), case) == Ok(true));
     }
-    Ok(())
-}
-
-#[test]
-fn calls_stop(rt: HostRuntime) -> Result<(), Fail> {
-    for case in &STOPS {
-        assert!(rt; holds(rt.alloc(), case)?);
-    }
-    Ok(())
-}
-
-#[test]
-fn the_runtime_serves(rt: HostRuntime) -> Result<(), Fail> {
-    for case in &RUNTIME {
-        assert!(rt; holds(rt.alloc(), case)?);
-    }
-    Ok(())
-}
-
-// Calls directly in a reversal are counted, less its steps, and the words above its start.
-#[test]
-fn reversals_are_counted(rt: HostRuntime) -> Result<(), Fail> {
-    let text =
-        "SUBROUTINE P(I)\nCALL PUSHINTEGER8(I)\nCALL ADBEG(1,1)\nCALL Q(I)\nCALL PUSHINTEGER8(I)\nCALL Q(I)\nCALL Q(I)\nCALL ADEND\nEND\nSUBROUTINE Q(K)\nK=K+1\nEND";
-    let checked = checked(rt.alloc(), text).map_err(|_| Memory)?;
-    let ended = run_first(rt.alloc(), &checked, &[0], 20, 9)?;
-    assert_eq!(rt; ended.stop, None);
-    assert_eq!(rt; ended.log.used, 10);
-    assert_eq!(rt; ended.log.reversals, 1);
-    assert_eq!(rt; ended.log.advances, 2);
-    assert_eq!(rt; ended.log.height, 1);
-    Ok(())
 }
