@@ -9,3 +9,5 @@ mod carryings;
 mod plans;
 #[cfg(test)]
 mod points;
+#[cfg(test)]
+mod programs;

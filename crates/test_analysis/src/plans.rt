@@ -1,13 +1,11 @@
 //! A table of texts with all marks of their programs, worked out by hand (docs/ANALYSES.md).
 
-use crate::activities::{flags, read};
-use adj_fixed::Mode;
+use crate::programs::{checked, head, is_set};
 use adj_flow::{Flow, Part};
 use adj_plan::plan;
-use adj_symbols::{Checked, check};
+use adj_symbols::Checked;
 use adj_tree::{BitFlags, Fault, Flags, Head, Marks, Memory, Name};
 use std::alloc::Global;
-use std::test::Fail;
 
 // The statements of P(X,N,Y), X being independent and Y dependent, behind declarations of X, Y and T; those of another unit; and the marks: each statement's K where it
 // is kept and A where it has an adjoint, and the variables that it saves; then of each unit the variables that have a shadow; and then
@@ -154,10 +152,6 @@ pub(crate) fn text_of(alloc: Global, statements: &str, other: &str) -> Result<Ve
     Ok(text)
 }
 
-fn is_set(flags: &Flags, place: usize) -> bool {
-    flags.as_slice().get(place).copied().unwrap_or(false)
-}
-
 // Adds the names whose flags are set, the first at a place.
 fn add_names(out: &mut Vec<u8>, names: &[Name], flags: &Flags, first: usize) -> Result<(), Memory> {
     for (number, name) in names.iter().enumerate() {
@@ -170,12 +164,7 @@ fn add_names(out: &mut Vec<u8>, names: &[Name], flags: &Flags, first: usize) -> 
 }
 
 // The same, or a `-` if none is.
-pub(crate) fn add_set(
-    out: &mut Vec<u8>,
-    names: &[Name],
-    flags: &Flags,
-    first: usize,
-) -> Result<(), Memory> {
+fn add_set(out: &mut Vec<u8>, names: &[Name], flags: &Flags, first: usize) -> Result<(), Memory> {
     let before = out.len();
     add_names(out, names, flags, first)?;
     if out.len() == before {
@@ -281,29 +270,30 @@ fn answer(
     shown(alloc, &planned.flow, &planned.marks)
 }
 
-// The marks of the program of a text, where the calls at these lines are to be split.
-fn marks_of(alloc: Global, source: &[u8], splits: &[u32]) -> Result<Vec<u8>, Fault> {
-    let program = read(alloc, source)?;
-    let checked = check(alloc, program, Mode::Source)?;
-    let head = Head {
-        unit: 0,
-        vars: flags(alloc, b"100")?,
-        outvars: flags(alloc, b"001")?,
-    };
+// Whether the program of these statements has these marks, where the calls at these lines are to be split.
+fn has_marks(
+    alloc: Global,
+    statements: &str,
+    other: &str,
+    splits: &[u32],
+    expected: &str,
+) -> Result<bool, Fault> {
+    let text = text_of(alloc, statements, other)?;
+    let checked = checked(alloc, text.as_slice())?;
+    let head = head(alloc, b"100", b"001")?;
     let answer = answer(alloc, &checked, &head, splits)?;
-    Ok(answer)
+    Ok(answer.as_slice() == expected.as_bytes())
 }
 
 #[test]
-fn the_marks_are_those_worked_out_by_hand(rt: HostRuntime) -> Result<(), Fail> {
-    let alloc = rt.alloc();
+fn the_marks_are_those_worked_out_by_hand(rt: HostRuntime) {
     for case in &PROGRAMS {
         let (statements, other, expected) = *case;
-        let text = text_of(alloc, statements, other)?;
-        let marks = marks_of(alloc, text.as_slice(), &[])?;
-        assert_eq!(rt; marks.as_slice(), expected.as_bytes(), "{statements}");
+        assert!(rt;
+            has_marks(rt.alloc(), statements, other, &[], expected) == Ok(true),
+            "{statements}"
+        );
     }
-    Ok(())
 }
 
 // Statements of P and of Q, and their marks where the call in line 5 is to be split, and where it isn't.
@@ -332,15 +322,17 @@ const SPLIT: [(&str, &str, &str, &str); 3] = [
 ];
 
 #[test]
-fn a_split_call_is_kept_and_saves_nothing(rt: HostRuntime) -> Result<(), Fail> {
+fn a_split_call_is_kept_and_saves_nothing(rt: HostRuntime) {
     let alloc = rt.alloc();
     for case in &SPLIT {
         let (statements, other, split, whole) = *case;
-        let text = text_of(alloc, statements, other)?;
-        let marks = marks_of(alloc, text.as_slice(), &[5])?;
-        assert_eq!(rt; marks.as_slice(), split.as_bytes(), "{statements}");
-        let others = marks_of(alloc, text.as_slice(), &[4])?;
-        assert_eq!(rt; others.as_slice(), whole.as_bytes(), "{statements}");
+        assert!(rt;
+            has_marks(alloc, statements, other, &[5], split) == Ok(true),
+            "{statements}"
+        );
+        assert!(rt;
+            has_marks(alloc, statements, other, &[4], whole) == Ok(true),
+            "{statements}"
+        );
     }
-    Ok(())
 }
