@@ -7,7 +7,6 @@ use adj_parse_expression::expression;
 use adj_tree::{Expr, Exprs, Memory, Name};
 use def_text::{Token, TokenKind};
 use std::alloc::{AllocError, Global};
-use std::test::Fail;
 
 fn kind_of(lexeme: &[u8]) -> TokenKind {
     match lexeme {
@@ -163,21 +162,40 @@ const EXPRESSIONS: [(&str, &str); 32] = [
     (")", "none"),
 ];
 
+// Whether that is shown.
+fn is_shown(alloc: Global, text: &str, limit: u32, wanted: &str) -> Result<bool, Memory>
+    requires { limit < 1000 }
+{
+    Ok(shown(alloc, text, limit)?.as_str() == wanted)
+}
+
 #[test]
-fn an_expression_is_read_at_the_front(rt: HostRuntime) -> Result<(), Fail> {
+fn an_expression_is_read_at_the_front(rt: HostRuntime) {
     for case in &EXPRESSIONS {
         let (text, want) = *case;
-        let found = shown(rt.alloc(), text, 4)?;
-        assert_eq!(rt; found.as_str(), want, "{text}");
+        assert!(rt; is_shown(rt.alloc(), text, 4, want) == Ok(true), "{text}");
+    }
+}
+
+fn push_times(out: &mut String, part: &str) -> Result<(), AllocError> {
+    for _ in 0..20_000 {
+        out.push_str(part)?;
     }
     Ok(())
 }
 
-pub(crate) fn push_times(out: &mut String, part: &str, count: usize) -> Result<(), AllocError> {
-    for _ in 0..count {
-        out.push_str(part)?;
-    }
-    Ok(())
+/// A text with 20,000 times one in front and another behind.
+pub(crate) fn deep(
+    alloc: Global,
+    front: &str,
+    inner: &str,
+    back: &str,
+) -> Result<String, AllocError> {
+    let mut text = String::new(alloc);
+    push_times(&mut text, front)?;
+    text.push_str(inner)?;
+    push_times(&mut text, back)?;
+    Ok(text)
 }
 
 // What stands 20,000 times in front, what is in it, what stands as often behind, and what is shown.
@@ -194,16 +212,15 @@ const DEEP: [(&str, &str, &str, &str); 10] = [
     ("( A , ", "A", "", "none"),
 ];
 
+fn is_deep(alloc: Global, case: &(&str, &str, &str, &str)) -> Result<bool, Memory> {
+    let (front, inner, back, want) = *case;
+    let text = deep(alloc, front, inner, back)?;
+    is_shown(alloc, text.as_str(), 100, want)
+}
+
 #[test]
-fn a_deep_expression_is_read_without_recursion(rt: HostRuntime) -> Result<(), Fail> {
+fn a_deep_expression_is_read_without_recursion(rt: HostRuntime) {
     for case in &DEEP {
-        let (front, inner, back, want) = *case;
-        let mut text = String::new(rt.alloc());
-        push_times(&mut text, front, 20_000)?;
-        text.push_str(inner)?;
-        push_times(&mut text, back, 20_000)?;
-        let found = shown(rt.alloc(), text.as_str(), 100)?;
-        assert_eq!(rt; found.as_str(), want, "{front}");
+        assert!(rt; is_deep(rt.alloc(), case) == Ok(true), "{}", case.0);
     }
-    Ok(())
 }

@@ -5,7 +5,6 @@ use adj_fixed::Mode;
 use adj_symbols::{check, head};
 use adj_tree::{Fault, Head, Memory, Name, boxed};
 use std::alloc::Global;
-use std::test::Fail;
 
 const TWO_UNITS: &[u8] = b"      SUBROUTINE P(I,J)
       CALL G(I,J)
@@ -20,20 +19,23 @@ fn named(alloc: Global, text: &str) -> Result<Name, Memory> {
 }
 
 // The head G, with K independent and L dependent.
-fn found(alloc: Global) -> Result<Head, Fault> {
+fn found(alloc: Global) -> Result<Box<Head>, Fault> {
     let program = read(alloc, TWO_UNITS, Mode::Source)?;
     let checked = boxed(alloc, check(alloc, program, Mode::Source)?)?;
     let name = named(alloc, "G")?;
-    let first = named(alloc, "K")?;
-    let second = named(alloc, "L")?;
-    head(alloc, &checked, &name, &[first], &[second])
+    let first = [named(alloc, "K")?];
+    let second = [named(alloc, "L")?];
+    let found = boxed(alloc, head(alloc, &checked, &name, &first, &second)?)?;
+    Ok(found)
 }
 
 #[test]
-fn a_program_is_checked_and_its_head_found(rt: HostRuntime) -> Result<(), Fail> {
-    let found = found(rt.alloc())?;
-    assert_eq!(rt; found.unit, 1);
-    assert_eq!(rt; found.vars.as_slice(), [true, false].as_slice());
-    assert_eq!(rt; found.outvars.as_slice(), [false, true].as_slice());
+fn a_program_is_checked_and_its_head_found(rt: HostRuntime) -> Result<(), Fault> {
+    let head = found(rt.alloc())?;
+    assert!(rt;
+        head.unit == 1
+            && head.vars.as_slice() == [true, false].as_slice()
+            && head.outvars.as_slice() == [false, true].as_slice()
+    );
     Ok(())
 }

@@ -1,9 +1,8 @@
-//! That the definitions mean what the language says: worked texts, their statements and their first faults.
+//! That the definitions mean what the language says: worked texts and their statements. Their faults stand in the golden cases of tests/.
 
 use adj_fixed::{Mode, Stated, TokenKind, data_part, statements};
-use adj_tree::{Fault, Mark};
+use adj_tree::Mark;
 use std::alloc::{AllocError, Global};
-use std::test::Fail;
 
 // The number or the name of a directive, or that it splits a call, or 0.
 fn push_advice(out: &mut String, stated: &Stated) -> Result<(), AllocError> {
@@ -49,13 +48,12 @@ fn shown(alloc: Global, text: &str, mode: Mode) -> Result<String, AllocError> {
     Ok(out)
 }
 
-// The code and line of a text's first fault in Source mode: zeros where it has none.
-fn fault_of(alloc: Global, text: &str) -> (u8, u32) {
-    match statements(alloc, text.as_bytes(), Mode::Source) {
-        Ok(_) => (0, 0),
-        Err(Fault::Refused(refusal)) => (refusal.code, refusal.line),
-        Err(Fault::Memory) => (99, 0),
+// Whether these are the statements of a text, or its fault, for a source and for a run.
+fn are_shown(alloc: Global, text: &str, wanted: &str) -> Result<bool, AllocError> {
+    if shown(alloc, text, Mode::Source)?.as_str() != wanted {
+        return Ok(false);
     }
+    Ok(shown(alloc, text, Mode::Run)?.as_str() == wanted)
 }
 
 // Texts, and what is shown of their statements.
@@ -149,237 +147,59 @@ c$ad binomial-ckp c
 ];
 
 #[test]
-fn texts_give_their_statements(rt: HostRuntime) -> Result<(), Fail> {
+fn texts_give_their_statements(rt: HostRuntime) {
     for case in &TEXTS {
-        let (text, want) = *case;
-        assert_eq!(rt; shown(rt.alloc(), text, Mode::Source)?.as_str(), want);
-        assert_eq!(rt; shown(rt.alloc(), text, Mode::Run)?.as_str(), want);
-    }
-    Ok(())
-}
-
-const LONG: &str = "SUBROUTINE P
-     1(
-     2X
-     3,
-     4A
-     5,
-     6B
-     7,
-     8C
-     9,
-     AD
-     B,
-     CE
-     D,
-     EF
-     F,
-     GG
-     H,
-     IH
-     J,
-     KI)
-";
-
-#[test]
-fn continuation_lines_are_limited_in_source_mode(rt: HostRuntime) -> Result<(), Fail> {
-    let text = format!(in rt.alloc(); "      X=1\n      Y=2\n      {LONG}")?;
-    assert_eq!(rt;
-        shown(rt.alloc(), &text, Mode::Source)?.as_str(),
-        "Refused(Refusal { code: 21, line: 23, number: 19 })"
-    );
-    let want =
-        "1 0 0 Assign: X = 1\n2 0 0 Assign: Y = 2\n3 0 0 Subroutine: P ( X , A , B , C , D , E , F , G , H , I )\n";
-    assert_eq!(rt; shown(rt.alloc(), &text, Mode::Run)?.as_str(), want);
-    Ok(())
-}
-
-fn code_of(alloc: Global, text: &str, mode: Mode) -> u8 {
-    match statements(alloc, text.as_bytes(), mode) {
-        Err(Fault::Refused(refusal)) => refusal.code,
-        _ => 0,
+        let (text, wanted) = *case;
+        assert!(rt; are_shown(rt.alloc(), text, wanted) == Ok(true), "{text}");
     }
 }
 
-// The codes of texts with a name of so many letters: in a statement, as a number of snapshots, and in a directive before no DO.
-fn codes(alloc: Global, len: usize, mode: Mode) -> Result<[u8; 3], AllocError> {
-    let name = "A".repeat(alloc, len)?;
-    let used = code_of(
-        alloc,
-        &format!(in alloc; "      IF(X)Y=\n     1{name}")?,
-        mode,
-    );
-    let marked = format!(in alloc; "C$AD BINOMIAL-CKP {name}\n      DOI=1,2")?;
-    let stray = format!(in alloc; "C$AD BINOMIAL-CKP {name}\n      X=1")?;
-    Ok([
-        used,
-        code_of(alloc, &marked, mode),
-        code_of(alloc, &stray, mode),
-    ])
-}
+// Texts without a fault of lines or of statements: what a later pass looks at, columns past 72, and what stands behind the data's line.
+const LATER: [&str; 10] = [
+    "      DO10I=(1,2)",
+    "      IF (A) CONTINUE",
+    "      COMMON//X",
+    "      COMMON/B/X,/C/Y",
+    "      COMMON/B/X=1",
+    "C$AD BINOMIAL-CKP 64  \n      X=1",
+    "C$AD NOCHECKPOINT\n      X=1",
+    "C$AD BINOMIAL-CKP N\nC c\n      DOWHILE(I=1,2)",
+    "      X=1\n$DATA\nX",
+    "      X=1                                                               'JUNK'",
+];
 
 #[test]
-fn names_are_limited_by_mode(rt: HostRuntime) -> Result<(), Fail> {
-    for case in &[(31, 0, 0), (32, 6, 0), (63, 6, 0), (64, 6, 6)] {
-        let (len, source, run) = *case;
-        assert_eq!(rt;
-            codes(rt.alloc(), len, Mode::Source)?,
-            [source, source, 0],
-            "at {len}"
-        );
-        assert_eq!(rt;
-            codes(rt.alloc(), len, Mode::Run)?,
-            [run, run, 0],
-            "at {len}"
+fn what_a_later_pass_looks_at_is_no_fault_of_statements(rt: HostRuntime) {
+    for text in &LATER {
+        assert!(rt;
+            statements(rt.alloc(), text.as_bytes(), Mode::Source).is_ok(),
+            "{text}"
         );
     }
-    Ok(())
 }
 
-// Texts, and the code and the line of their first fault.
-const LINES: &[(&str, u8, u32)] = &[
-    // Code 1: columns 1 to 6, and a continuation of nothing.
-    ("A     X=1", 1, 1),
-    ("1A    X=1", 1, 1),
-    ("    0 X=1", 1, 1),
-    ("00000 X=1", 1, 1),
-    ("-1    X=1", 1, 1),
-    ("10   1X=1", 1, 1),
-    ("\tX=1", 1, 1),
-    ("     1X=1", 1, 1),
-    ("C c\n     1X=1", 1, 2),
-    ("      X=1\nX", 1, 2),
-    // Code 2: other bytes.
-    ("      X=1;Y=2", 2, 1),
-    ("      X=\t1", 2, 1),
-    ("      X='A'", 2, 1),
-    ("      X=1!", 2, 1),
-    ("      X=1\n     1$", 2, 2),
-    ("      X=1\n     \u{1}1", 2, 2),
-    ("      X=1\n     \u{7f}1", 2, 2),
-    ("      X=\u{e9}", 2, 1),
-];
-
-const STATEMENTS: &[(&str, u8, u32)] = &[
-    // Code 3: other statements.
-    ("      GOTO 10", 3, 1),
-    ("      GOTO (10", 3, 1),
-    ("      REAL X", 3, 1),
-    ("      SAVE", 3, 1),
-    ("      COMMON", 3, 1),
-    ("      COMMON X", 3, 1),
-    ("      COMMON B/X/", 3, 1),
-    ("      IF (A.GT.0) COMMON X", 3, 1),
-    ("      CONTINUE1", 3, 1),
-    ("      A(=1", 3, 1),
-    ("      INTEGER*4X", 3, 1),
-    ("      INTEGER*88X", 3, 1),
-    ("      ELSE IF (A)", 3, 1),
-    ("      IF (A) 1,2,3", 3, 1),
-    ("      IF (A.GT.0) GOTO 10", 3, 1),
-    ("      IF ((X.GT.0) THEN", 3, 1),
-    ("      DO 10 WHILE (A.LT.B)", 3, 1),
-    ("      DO WHILE (A.LT.B) C", 3, 1),
-    ("      DO WHILE (A.LT.B)(C)", 3, 1),
-    ("      DO WHILE (A.LT.B", 3, 1),
-    // Code 4: what isn't cut into tokens, parentheses, and no statement at all.
-    ("      DO 10 I = 1.5", 4, 1),
-    ("   10", 4, 1),
-    ("      A)=1", 4, 1),
-    ("      X=(1", 4, 1),
-    ("      CALL P(X", 4, 1),
-    ("      X=_A", 4, 1),
-    ("      COMMON/_B/X", 4, 1),
-    ("      COMMON/B/X(", 4, 1),
-    ("      X=.TRUE.", 4, 1),
-    ("      X=1.E5", 4, 1),
-    ("      IF (A.XX.B) Y=1", 4, 1),
-    ("      X=ABCDEFGHIJKLMNOPQRSTUVWXYZABCDEFG+.1", 4, 1),
-    // Code 6: long names.
-    ("      SUBROUTINE ABCDEFGHIJKLMNOPQRSTUVWXYZABCDEF", 6, 1),
-    ("      X=1\n      X=ABCDEFGHIJKLMNOPQRSTUVWXYZ_12345", 6, 2),
-    (
-        "C$AD BINOMIAL-CKP ABCDEFGHIJKLMNOPQRSTUVWXYZ_12345\n      DOI=1,2",
-        6,
-        2,
-    ),
-];
-
-const DIRECTIVES: &[(&str, u8, u32)] = &[
-    // Code 20: directives.
-    ("C$AD BINOMIAL-CKP 0\n      DOI=1,2", 20, 1),
-    ("C$AD BINOMIAL-CKP 65\n      DOI=1,2", 20, 1),
-    ("C$AD BINOMIAL-CKP 005\n      DOI=1,2", 20, 1),
-    ("C$AD BINOMIAL-CKP 5 6\n      DOI=1,2", 20, 1),
-    ("C$AD BINOMIAL-CKP 5N\n      DOI=1,2", 20, 1),
-    ("C$AD BINOMIAL-CKP N 5\n      DOI=1,2", 20, 1),
-    ("C$AD BINOMIAL-CKP _N\n      DOI=1,2", 20, 1),
-    ("C$AD BINOMIAL-CKP\n      DOI=1,2", 20, 1),
-    ("C$AD BINOMIAL-CKP \n      DOI=1,2", 20, 1),
-    ("C$AD BINOMIAL-CKP5\n      DOI=1,2", 20, 1),
-    ("C$ADBINOMIAL-CKP 5\n      DOI=1,2", 20, 1),
-    ("C$AD OTHER\n      DOI=1,2", 20, 1),
-    ("      X=1\nC$AD BINOMIAL-CKP 5", 20, 2),
-    ("C$AD BINOMIAL-CKP 5\n$DATA\n      DOI=1,2", 20, 1),
-    ("C$AD BINOMIAL-CKP 5\nC c\n     1I=1,2", 20, 1),
-    (
-        "C$AD BINOMIAL-CKP 5\nC$AD BINOMIAL-CKP 5\n      DOI=1,2",
-        20,
-        1,
-    ),
-    ("C$AD BINOMIAL-CKP 5\nX", 1, 2),
-    ("C$AD NOCHECKPOINT 5\n      CALL Q", 20, 1),
-    ("C$AD NOCHECKPOINTS\n      CALL Q", 20, 1),
-    ("C$AD NOCHECKPOIN\n      CALL Q", 20, 1),
-    ("C$ADNOCHECKPOINT\n      CALL Q", 20, 1),
-    ("      X=1\nC$AD NOCHECKPOINT", 20, 2),
-    ("C$AD NOCHECKPOINT\n$DATA\n      CALL Q", 20, 1),
-    ("C$AD NOCHECKPOINT\nC c\n     1CALL Q", 20, 1),
-    // The lines come first, then the statements in order.
-    ("      GOTO 10\nX", 1, 2),
-    ("      X=1.5\n      GOTO 10", 4, 1),
-    // None: what a later pass looks at, columns past 72, and what stands behind the data's line.
-    ("      DO10I=(1,2)", 0, 0),
-    ("      IF (A) CONTINUE", 0, 0),
-    ("      COMMON//X", 0, 0),
-    ("      COMMON/B/X,/C/Y", 0, 0),
-    ("      COMMON/B/X=1", 0, 0),
-    ("C$AD BINOMIAL-CKP 64  \n      X=1", 0, 0),
-    ("C$AD NOCHECKPOINT\n      X=1", 0, 0),
-    ("C$AD BINOMIAL-CKP N\nC c\n      DOWHILE(I=1,2)", 0, 0),
-    ("      X=1\n$DATA\nX", 0, 0),
-    (
-        "      X=1                                                               'JUNK'",
-        0,
-        0,
-    ),
-];
-
-#[test]
-fn first_faults_stand_at_their_lines(rt: HostRuntime) {
-    for faults in [LINES, STATEMENTS, DIRECTIVES] {
-        for (text, code, line) in faults {
-            assert_eq!(rt; fault_of(rt.alloc(), text), (*code, *line), "of {text:?}");
-        }
-    }
-}
-
-// Texts, and where their data begin: the place and the line.
-const DATA: [(&str, (usize, u32)); 8] = [
-    ("", (0, 0)),
-    ("A", (1, 1)),
-    ("A\n", (2, 1)),
-    ("A\n\nB", (4, 3)),
-    ("$DATA", (5, 1)),
-    ("A\n$DATA\n", (8, 2)),
-    ("A\n$DATA  \r\nX 1\n", (11, 2)),
-    ("$data\n$DATAX\n$DATA\n$DATA\n", (19, 3)),
-];
-
+// The place and the line where the data of texts begin.
 #[test]
 fn data_begin_behind_their_line(rt: HostRuntime) {
-    for case in &DATA {
-        let (text, want) = *case;
-        assert_eq!(rt; data_part(text.as_bytes()), want, "of {text:?}");
-    }
+    let found = [
+        data_part(b""),
+        data_part(b"A"),
+        data_part(b"A\n"),
+        data_part(b"A\n\nB"),
+        data_part(b"$DATA"),
+        data_part(b"A\n$DATA\n"),
+        data_part(b"A\n$DATA  \r\nX 1\n"),
+        data_part(b"$data\n$DATAX\n$DATA\n$DATA\n"),
+    ];
+    let wanted = [
+        (0, 0),
+        (1, 1),
+        (2, 1),
+        (4, 3),
+        (5, 1),
+        (8, 2),
+        (11, 2),
+        (19, 3),
+    ];
+    assert_eq!(rt; found, wanted);
 }

@@ -4,9 +4,8 @@ use crate::read::read;
 use crate::texts::push_statement;
 use adj_fixed::Mode;
 use adj_print::text;
-use adj_tree::Fault;
+use adj_tree::{Fault, boxed};
 use std::alloc::Global;
-use std::test::Fail;
 
 // Every kind of statement, and parentheses of each kind, as they are printed.
 const CANONICAL: &[u8] = b"      SUBROUTINE P(A,N,X)
@@ -139,27 +138,33 @@ C$AD BINOMIAL-CKP 7
 
 // The canonical text of what a text reads as, by way of an equal program.
 fn printed(alloc: Global, bytes: &[u8]) -> Result<Vec<u8>, Fault> {
-    let program = read(alloc, bytes, Mode::Run)?;
-    let copy = program.copy(alloc)?;
+    let program = boxed(alloc, read(alloc, bytes, Mode::Run)?)?;
+    let copy = boxed(alloc, program.copy(alloc)?)?;
     let text = text(alloc, &copy)?;
     Ok(text)
 }
 
 // Whether a text is its own canonical text.
 fn is_canonical(alloc: Global, bytes: &[u8]) -> Result<bool, Fault> {
+    Ok(printed(alloc, bytes)?.as_slice() == bytes)
+}
+
+// Whether the canonical text of a text is its own.
+fn is_canonical_printed(alloc: Global, bytes: &[u8]) -> Result<bool, Fault> {
     let text = printed(alloc, bytes)?;
-    Ok(text.as_slice() == bytes)
+    is_canonical(alloc, text.as_slice())
 }
 
 #[test]
-fn what_is_printed_reads_as_it_was_written(rt: HostRuntime) -> Result<(), Fault> {
+fn what_is_printed_reads_as_it_was_written(rt: HostRuntime) {
     let alloc = rt.alloc();
-    for text in [CANONICAL, SQUARE, BLOCKS] {
-        assert!(rt; is_canonical(alloc, text)?);
-    }
-    let text = printed(alloc, FREE)?;
-    assert!(rt; is_canonical(alloc, text.as_slice())?);
-    Ok(())
+    let found = [
+        is_canonical(alloc, CANONICAL),
+        is_canonical(alloc, SQUARE),
+        is_canonical(alloc, BLOCKS),
+        is_canonical_printed(alloc, FREE),
+    ];
+    assert!(rt; found == [Ok(true); 4], "{found:?}");
 }
 
 // A unit whose one statement has so many characters: a sum of ones, assigned to a name of one or two letters.
@@ -175,14 +180,20 @@ fn unit_of(alloc: Global, length: usize) -> Result<Vec<u8>, Fault> {
     Ok(all)
 }
 
+// Whether such a unit is printed and read back.
+fn is_read_back(alloc: Global, length: usize) -> Result<bool, Fault> {
+    let text = unit_of(alloc, length)?;
+    is_canonical(alloc, text.as_slice())
+}
+
 #[test]
-fn statements_at_the_end_of_their_lines_are_printed_and_read_back(
-    rt: HostRuntime,
-) -> Result<(), Fault> {
+fn statements_at_the_end_of_their_lines_are_printed_and_read_back(rt: HostRuntime) {
     let alloc = rt.alloc();
-    for length in [66, 67, 132, 133] {
-        let text = unit_of(alloc, length)?;
-        assert!(rt; is_canonical(alloc, text.as_slice())?, "{length}");
-    }
-    Ok(())
+    let found = [
+        is_read_back(alloc, 66),
+        is_read_back(alloc, 67),
+        is_read_back(alloc, 132),
+        is_read_back(alloc, 133),
+    ];
+    assert!(rt; found == [Ok(true); 4], "{found:?}");
 }

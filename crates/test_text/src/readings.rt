@@ -4,8 +4,8 @@ use crate::read::reading;
 use crate::texts::push_line;
 use adj_fixed::Mode;
 use adj_tool_answer::read_marked;
-use adj_tree::Memory;
-use std::alloc::{AllocError, Global};
+use adj_tree::{Fault, Memory};
+use std::alloc::Global;
 
 // A body that is one statement or more, and its canonical text.
 // A line that begins with a blank or is a directive stands as it is; any other begins in column 7.
@@ -229,51 +229,37 @@ fn unit(alloc: Global, body: &str) -> Result<Vec<u8>, Memory> {
     Ok(all)
 }
 
+// Whether a text reads as expected.
+fn is_reading(alloc: Global, text: &[u8], expected: &[u8]) -> Result<bool, Memory> {
+    Ok(reading(alloc, text, Mode::Source)?.as_slice() == expected)
+}
+
 // Whether the unit of this body reads as expected.
 fn reads_as(alloc: Global, body: &str, expected: &str) -> Result<bool, Memory> {
-    let found = reading(alloc, unit(alloc, body)?.as_slice(), Mode::Source)?;
+    let text = unit(alloc, body)?;
     let whole = unit(alloc, expected)?;
-    Ok(found.as_slice() == whole.as_slice())
+    is_reading(alloc, text.as_slice(), whole.as_slice())
 }
 
 #[test]
-fn each_statement_reads_as_its_tree(rt: HostRuntime) -> Result<(), Memory> {
+fn each_statement_reads_as_its_tree(rt: HostRuntime) {
     for readings in [SUMS, EXPONENTS, CONDITIONS, BLOCKS, LOOPS] {
         for (body, expected) in readings {
-            assert!(rt; reads_as(rt.alloc(), body, expected)?, "{body}");
+            assert!(rt; reads_as(rt.alloc(), body, expected) == Ok(true), "{body}");
         }
     }
-    Ok(())
+}
+
+// The lines of its split calls are these.
+fn has_splits(alloc: Global, text: &[u8], lines: &[u32]) -> Result<bool, Fault> {
+    Ok(read_marked(alloc, text, Mode::Source)?.splits.as_slice() == lines)
 }
 
 #[test]
-fn loops_with_labels_read_as_their_trees(rt: HostRuntime) -> Result<(), Memory> {
-    let cases: [(&[u8], &[u8]); 2] = [(SHARED, SHARED_TREE), (WAVE, WAVE_TREE)];
-    for case in &cases {
-        let (text, expected) = *case;
-        let found = reading(rt.alloc(), text, Mode::Source)?;
-        assert!(rt; found.as_slice() == expected);
-    }
-    Ok(())
-}
-
-// The lines of the split calls of a text, or its fault as Debug writes it.
-fn splits_in(alloc: Global, text: &[u8]) -> Result<String, AllocError> {
-    let mut out = String::new(alloc);
-    match read_marked(alloc, text, Mode::Source) {
-        Ok(reading) => {
-            for line in reading.splits.as_slice() {
-                write!(out, "{line} ")?;
-            }
-        }
-        Err(fault) => write!(out, "{fault:?}")?,
-    }
-    Ok(out)
-}
-
-#[test]
-fn split_calls_stand_on_their_lines(rt: HostRuntime) -> Result<(), AllocError> {
-    assert_eq!(rt; splits_in(rt.alloc(), SPLIT)?.as_str(), "4 8 ");
-    assert_eq!(rt; splits_in(rt.alloc(), WAVE)?.as_str(), "");
-    Ok(())
+fn labelled_loops_read_as_their_trees_and_split_calls_stand_on_their_lines(rt: HostRuntime) {
+    let alloc = rt.alloc();
+    assert!(rt; is_reading(alloc, SHARED, SHARED_TREE) == Ok(true));
+    assert!(rt; is_reading(alloc, WAVE, WAVE_TREE) == Ok(true));
+    assert!(rt; has_splits(alloc, SPLIT, &[4, 8]) == Ok(true));
+    assert!(rt; has_splits(alloc, WAVE, &[]) == Ok(true));
 }
