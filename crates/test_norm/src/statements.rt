@@ -1,9 +1,8 @@
 //! Statements of a unit, and those that they become in its kernel, worked out by hand by docs/KERNEL.md.
 
 use crate::kernels::becomes;
-use adj_tree::Memory;
+use adj_tree::{Fault, Memory};
 use std::alloc::Global;
-use std::test::Fail;
 
 // The kernel's unit up to its locals.
 const HEAD: &str =
@@ -126,17 +125,20 @@ fn expected(alloc: Global, locals: u8, lines: &str) -> Result<Vec<u8>, Memory> {
     Ok(all)
 }
 
+// Whether these lines become others, with so many locals.
+fn become_those(alloc: Global, lines: &str, locals: u8, lowered: &str) -> Result<bool, Fault> {
+    let text = source(alloc, lines)?;
+    let kernel = expected(alloc, locals, lowered)?;
+    becomes(alloc, text.as_slice(), kernel.as_slice())
+}
+
 #[test]
-fn each_statement_becomes_those_of_its_kernel(rt: HostRuntime) -> Result<(), Fail> {
-    let alloc = rt.alloc();
+fn each_statement_becomes_those_of_its_kernel(rt: HostRuntime) {
     for case in &STATEMENTS {
         let (lines, locals, lowered) = *case;
-        let text = source(alloc, lines)?;
-        let kernel = expected(alloc, locals, lowered)?;
         assert!(rt;
-            becomes(alloc, text.as_slice(), kernel.as_slice())?,
+            become_those(rt.alloc(), lines, locals, lowered) == Ok(true),
             "{lines}"
         );
     }
-    Ok(())
 }
