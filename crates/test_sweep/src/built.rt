@@ -12,12 +12,21 @@ use adj_sweep::callees::{Callee, Callees, Dummy};
 use adj_tree::{Fault, Items, Memory, Name, Program, Stmts, Unit, boxed};
 use std::alloc::Global;
 
-/// A program whose one unit has these statements.
-pub(crate) fn read(alloc: Global, lines: &str) -> Result<Program, Fault> {
+// A program whose one unit has these statements.
+fn read_program(alloc: Global, lines: &str) -> Result<Program, Fault> {
     let all = format!(in alloc; "      SUBROUTINE P\n{lines}      END\n")?;
     let stated = statements(alloc, all.as_bytes(), Mode::Source)?;
     let read = program(alloc, stated.as_slice(), Mode::Source)?;
     lower_common(alloc, read)
+}
+
+/// The body of a unit that has these statements.
+pub(crate) fn read(alloc: Global, lines: &str) -> Result<Stmts, Fault> {
+    let mut units = read_program(alloc, lines)?.into_units().into_vec();
+    match units.pop() {
+        Some(unit) => Ok(unit.into_body()),
+        None => Ok(Stmts::Empty),
+    }
 }
 
 fn name(alloc: Global, text: &[u8]) -> Result<Name, Memory> {

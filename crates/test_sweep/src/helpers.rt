@@ -104,15 +104,23 @@ const BODIES: [(MarkedLoops, &str, &[(Role, usize)]); 5] = [
     ),
 ];
 
+fn has_helpers(
+    alloc: Global,
+    loops: MarkedLoops,
+    statements: &str,
+    wanted: &[(Role, usize)],
+) -> Result<bool, Fault> {
+    let body = read(alloc, statements)?;
+    Ok(uses(alloc, loops, &body, wanted)?)
+}
+
 #[test]
-fn each_body_uses_its_helpers(rt: HostRuntime) -> Result<(), Fault> {
-    let alloc = rt.alloc();
+fn each_body_uses_its_helpers(rt: HostRuntime) {
     for case in &BODIES {
         let (loops, statements, wanted) = *case;
-        let program = read(alloc, statements)?;
-        for unit in program.units.as_slice() {
-            assert!(rt; uses(alloc, loops, &unit.body, wanted)?, "{statements}");
-        }
+        assert!(rt;
+            has_helpers(rt.alloc(), loops, statements, wanted) == Ok(true),
+            "{statements}"
+        );
     }
-    Ok(())
 }

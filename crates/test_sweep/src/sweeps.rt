@@ -25,13 +25,14 @@ const SCALARS: Called<'static> = Called {
     helper_names: &[b"ADC", b"ADL1", b"ADM1", b"ADI1", b"ADJ1"],
 };
 
-// The adjoint of a body, where the shadow of Y is cleared between the sweeps and that of X at the end.
-fn adjoint_of(
+// Whether these lines are the adjoint of a body, where the shadow of Y is cleared between the sweeps and that of X at the end.
+fn is_adjoint(
     alloc: Global,
     called: &Called,
     callees: &Callees,
     statements: &Stmts,
-) -> Result<Stmts, Memory> {
+    lines: &str,
+) -> Result<bool, Memory> {
     let names = names(alloc, called)?;
     let arrays = boxed(alloc, NameSet::new(alloc)?)?;
     let marks: Marking<'static> = Marking::Full;
@@ -51,7 +52,18 @@ fn adjoint_of(
         at_turn: at_turn.as_slice(),
         at_end: at_end.as_slice(),
     };
-    plan.adjoint_body(alloc, &body)
+    is_text(alloc, plan.adjoint_body(alloc, &body)?, lines)
+}
+
+fn has_adjoint(
+    alloc: Global,
+    called: &Called,
+    callees: &Callees,
+    statements: &str,
+    lines: &str,
+) -> Result<bool, Fault> {
+    let body = read(alloc, statements)?;
+    Ok(is_adjoint(alloc, called, callees, &body, lines)?)
 }
 
 // Statements and their adjoint.
@@ -112,16 +124,33 @@ fn each_body_has_its_adjoint(rt: HostRuntime) -> Result<(), Fault> {
     let callees = no_callees(alloc)?;
     for case in &BODIES {
         let (statements, lines) = *case;
-        let program = read(alloc, statements)?;
-        for unit in program.units.as_slice() {
-            let code = adjoint_of(alloc, &SCALARS, &callees, &unit.body)?;
-            assert!(rt; is_text(alloc, code, lines)?, "{statements}");
-        }
+        let holds = has_adjoint(alloc, &SCALARS, &callees, statements, lines);
+        assert!(rt; holds == Ok(true), "{statements}");
     }
     Ok(())
 }
 
-// Whether these lines are the forward and the backward body that are made of a body for split calls, where Y and I are left on the tape.
+// Whether these lines are the forward body for split calls that a plan makes of a body.
+fn is_forth(
+    alloc: Global,
+    plan: &Plan<'_>,
+    body: &PairBody<'_>,
+    lines: &str,
+) -> Result<bool, Memory> {
+    is_text(alloc, plan.forth_body(alloc, body)?, lines)
+}
+
+// The same of the backward body.
+fn is_back(
+    alloc: Global,
+    plan: &Plan<'_>,
+    body: &PairBody<'_>,
+    lines: &str,
+) -> Result<bool, Memory> {
+    is_text(alloc, plan.back_body(alloc, body)?, lines)
+}
+
+// Whether these lines are both bodies that are made of a body for split calls, where Y and I are left on the tape.
 fn is_pair(alloc: Global, statements: &Stmts, forth: &str, back: &str) -> Result<bool, Memory> {
     let names = names(alloc, &SCALARS)?;
     let arrays = boxed(alloc, NameSet::new(alloc)?)?;
@@ -141,9 +170,10 @@ fn is_pair(alloc: Global, statements: &Stmts, forth: &str, back: &str) -> Result
         line: 1,
         left: left.as_slice(),
     };
-    let forward = is_text(alloc, plan.forth_body(alloc, &body)?, forth)?;
-    let backward = is_text(alloc, plan.back_body(alloc, &body)?, back)?;
-    Ok(forward && backward)
+    Ok(
+        is_forth(alloc, &plan, &body, forth) == Ok(true)
+            && is_back(alloc, &plan, &body, back) == Ok(true),
+    )
 }
 
 // What is pushed at the end of the forward body is popped at the beginning of the backward one, in the opposite order.
@@ -181,11 +211,8 @@ const BACK: &str = "      CALL POPINTEGER8(I)
 
 #[test]
 fn a_body_has_a_forward_and_a_backward_body(rt: HostRuntime) -> Result<(), Fault> {
-    let alloc = rt.alloc();
-    let program = read(alloc, PAIRED)?;
-    for unit in program.units.as_slice() {
-        assert!(rt; is_pair(alloc, &unit.body, FORTH, BACK)?);
-    }
+    let body = read(rt.alloc(), PAIRED)?;
+    assert!(rt; is_pair(rt.alloc(), &body, FORTH, BACK) == Ok(true));
     Ok(())
 }
 
@@ -376,11 +403,8 @@ fn marked_loops_are_reversed_by_schedules(rt: HostRuntime) -> Result<(), Fault> 
     let callees = one_callee(alloc, b"G", b"G_B", &STEP)?;
     for case in &MARKED {
         let (statements, lines) = *case;
-        let program = read(alloc, statements)?;
-        for unit in program.units.as_slice() {
-            let code = adjoint_of(alloc, &STEPS, &callees, &unit.body)?;
-            assert!(rt; is_text(alloc, code, lines)?, "{statements}");
-        }
+        let holds = has_adjoint(alloc, &STEPS, &callees, statements, lines);
+        assert!(rt; holds == Ok(true), "{statements}");
     }
     Ok(())
 }
