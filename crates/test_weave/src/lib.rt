@@ -4,8 +4,6 @@
 #![tactic(auto)]
 
 #[cfg(test)]
-mod schedules;
-#[cfg(test)]
 mod spared;
 #[cfg(test)]
 mod tangents;

@@ -1,4 +1,5 @@
-//! What is emitted by exact activity, and by flags that are given of what is kept, saved and needed.
+//! What is emitted by exact activity, and by flags that are given of what is kept, saved and needed. What is emitted by the flags of a plan stands in the golden
+//! cases of tests/.
 
 ghost use Rattle.std.specs.Prelude.{◌≡◌, ◌<◌, ℕ, false, IfOk, length};
 ghost use Rattle.adj_tree.specs.View.{procedures_of};
@@ -16,13 +17,12 @@ use adj_plan::carrying;
 use adj_print::text;
 use adj_sweep::steps::MarkedLoops;
 use adj_symbols::{Checked, check};
-use adj_tree::{BitFlags, Fault, Flags, Head, Kept, Marks, Memory, Program, Saved};
+use adj_tree::{BitFlags, Fault, Flags, Head, Kept, Marks, Memory, Program, Saved, boxed};
 use adj_weave::{FoundMarks, Marked, adjoint};
 use std::alloc::Global;
-use std::test::Fail;
 
 // The program of a text.
-pub(crate) fn read(alloc: Global, source: &[u8]) -> Result<Program, Fault>
+fn read(alloc: Global, source: &[u8]) -> Result<Program, Fault>
     ensures written { IfOk result (λ p. IsWrittenIfNamed (procedures_of p)) }
 {
     adj_tool_answer::read(alloc, source, Mode::Source)
@@ -35,6 +35,27 @@ pub(crate) fn flags(alloc: Global, digits: &[u8]) -> Result<Flags, Memory> {
         flags.push(*digit == b'1')?;
     }
     Ok(Flags::new(flags))
+}
+
+/// The program of a text, checked.
+pub(crate) fn checked(alloc: Global, source: &[u8]) -> Result<Box<Checked>, Fault> {
+    let program = read(alloc, source)?;
+    let checked = boxed(alloc, check(alloc, program, Mode::Source)?)?;
+    Ok(checked)
+}
+
+/// The first unit as head, with a digit for each dummy, whether it is independent and whether it is dependent.
+pub(crate) fn head(alloc: Global, vars: &[u8], outvars: &[u8]) -> Result<Box<Head>, Memory>
+    ensures first { IfOk result (λ head. head.value.unit ≡ 0) }
+{
+    let vars = flags(alloc, vars)?;
+    let outvars = flags(alloc, outvars)?;
+    let head = Head {
+        unit: 0,
+        vars,
+        outvars,
+    };
+    boxed(alloc, head)
 }
 
 // The same, a bit each.
@@ -51,12 +72,12 @@ fn bits(alloc: Global, digits: &[u8]) -> Result<BitFlags, Memory> {
 // A digit for each dummy of the head, whether it is independent and whether it is dependent; for each statement, whether it is kept;
 // and for each place of a variable in each unit, and in each statement, whether it is needed at the entry, and saved.
 #[derive(Clone, Copy)]
-pub(crate) struct Given<'a> {
-    pub vars: &'a [u8],
-    pub outvars: &'a [u8],
-    pub kept: &'a [u8],
-    pub entry: &'a [u8],
-    pub saved: &'a [u8],
+struct Given<'a> {
+    vars: &'a [u8],
+    outvars: &'a [u8],
+    kept: &'a [u8],
+    entry: &'a [u8],
+    saved: &'a [u8],
 }
 
 // The text of what is emitted for a checked program in kernel form, of which this is the flow, where no call is split.
@@ -95,11 +116,7 @@ fn emitted(
 // The same of a checked program, if it is in kernel form, with its first unit as the head.
 fn answer(alloc: Global, checked: &Checked, given: Given<'_>) -> Result<Vec<u8>, Memory> {
     let program = checked.program();
-    let head = Head {
-        unit: 0,
-        vars: flags(alloc, given.vars)?,
-        outvars: flags(alloc, given.outvars)?,
-    };
+    let head = head(alloc, given.vars, given.outvars)?;
     if program.units.as_slice().len() == 0 || !checked.fits() || !is_kernel(program) {
         return Ok(Vec::new(alloc));
     }
@@ -108,21 +125,15 @@ fn answer(alloc: Global, checked: &Checked, given: Given<'_>) -> Result<Vec<u8>,
 }
 
 // Whether this is emitted for the program of a text.
-pub(crate) fn emits(
-    alloc: Global,
-    source: &[u8],
-    given: Given<'_>,
-    expected: &[u8],
-) -> Result<bool, Fault> {
-    let program = read(alloc, source)?;
-    let checked = check(alloc, program, Mode::Source)?;
+fn emits(alloc: Global, source: &[u8], given: Given<'_>, expected: &[u8]) -> Result<bool, Fault> {
+    let checked = checked(alloc, source)?;
     let answer = answer(alloc, &checked, given)?;
     Ok(answer.as_slice() == expected)
 }
 
 // The last assignment isn't kept; the first saves Y, since the flag says so; N has no shadow.
 #[test]
-fn a_unit_by_marks(rt: HostRuntime) -> Result<(), Fail> {
+fn a_unit_by_marks(rt: HostRuntime) {
     let source: &[u8] = b"      SUBROUTINE P(X,N,Y)
       INTEGER*8 X,N,Y
       Y=X*N
@@ -161,104 +172,5 @@ fn a_unit_by_marks(rt: HostRuntime) -> Result<(), Fail> {
       YB=0
       END
 ";
-    assert!(rt; emits(rt.alloc(), source, given, expected)?);
-    Ok(())
-}
-
-// The call isn't kept, so neither unit is emitted as it is. Q overwrites what its adjoint needs.
-#[test]
-fn a_call_by_marks(rt: HostRuntime) -> Result<(), Fail> {
-    let source: &[u8] = b"      SUBROUTINE P(X,Y)
-      INTEGER*8 X,Y
-      Y=X
-      CALL Q(Y)
-      END
-      SUBROUTINE Q(A)
-      INTEGER*8 A
-      A=A*A
-      END
-";
-    let given = Given {
-        vars: b"10",
-        outvars: b"01",
-        kept: b"100",
-        entry: b"1010",
-        saved: b"000000",
-    };
-    let expected: &[u8] = b"      SUBROUTINE P_B(X,XB,Y,YB)
-      INTEGER*8 X
-      INTEGER*8 XB
-      INTEGER*8 Y
-      INTEGER*8 YB
-      INTEGER*8 ADW1
-      Y=X
-      CALL PUSHINTEGER8(Y)
-      XB=0
-      CALL POPINTEGER8(Y)
-      CALL Q_B(Y,YB)
-      ADW1=YB
-      YB=0
-      XB=XB+ADW1
-      YB=0
-      END
-      SUBROUTINE Q_B(A,AB)
-      INTEGER*8 A
-      INTEGER*8 AB
-      INTEGER*8 ADW1
-      INTEGER*8 ADW2
-      ADW1=AB
-      AB=0
-      ADW2=ADW1*A
-      AB=AB+ADW2
-      ADW2=ADW1*A
-      AB=AB+ADW2
-      END
-";
-    assert!(rt; emits(rt.alloc(), source, given, expected)?);
-    Ok(())
-}
-
-// The call of R is kept, but R has no derivative that counts: R comes as it is, and has no adjoint.
-#[test]
-fn a_unit_without_an_adjoint(rt: HostRuntime) -> Result<(), Fail> {
-    let source: &[u8] = b"      SUBROUTINE P(X,Y,N)
-      INTEGER*8 X,Y,N
-      CALL R(N)
-      Y=X*N
-      END
-      SUBROUTINE R(A)
-      INTEGER*8 A
-      A=A+1
-      END
-";
-    let given = Given {
-        vars: b"100",
-        outvars: b"010",
-        kept: b"101",
-        entry: b"101000",
-        saved: b"",
-    };
-    let expected: &[u8] = b"      SUBROUTINE P_B(X,XB,Y,YB,N)
-      INTEGER*8 X
-      INTEGER*8 XB
-      INTEGER*8 Y
-      INTEGER*8 YB
-      INTEGER*8 N
-      INTEGER*8 ADW1
-      INTEGER*8 ADW2
-      CALL R(N)
-      XB=0
-      ADW1=YB
-      YB=0
-      ADW2=ADW1*N
-      XB=XB+ADW2
-      YB=0
-      END
-      SUBROUTINE R(A)
-      INTEGER*8 A
-      A=A+1
-      END
-";
-    assert!(rt; emits(rt.alloc(), source, given, expected)?);
-    Ok(())
+    assert!(rt; emits(rt.alloc(), source, given, expected) == Ok(true));
 }
