@@ -48,7 +48,7 @@ fn machine<'a>(alloc: Global, names: &'a NameList, left: u64) -> Result<Machine<
         tally: Tally::new(alloc),
         cursor: None,
         spare_actuals: Spare::new(alloc),
-        spare_slots: Spare::new(alloc),
+        spare_slots: Vec::new(alloc),
         alloc,
     })
 }
