@@ -12,17 +12,19 @@ use adj_sweep::callees::{Callee, Callees, Dummy};
 use adj_tree::{Fault, Items, Memory, Name, Program, Stmts, Unit, boxed};
 use std::alloc::Global;
 
-// A program whose one unit has these statements.
-fn read_program(alloc: Global, lines: &str) -> Result<Program, Fault> {
-    let all = format!(in alloc; "      SUBROUTINE P\n{lines}      END\n")?;
-    let stated = statements(alloc, all.as_bytes(), Mode::Source)?;
+/// The program of a text.
+pub(crate) fn read_program(alloc: Global, source: &[u8]) -> Result<Box<Program>, Fault> {
+    let stated = statements(alloc, source, Mode::Source)?;
     let read = program(alloc, stated.as_slice(), Mode::Source)?;
-    lower_common(alloc, read)
+    let lowered = boxed(alloc, lower_common(alloc, read)?)?;
+    Ok(lowered)
 }
 
 /// The body of a unit that has these statements.
 pub(crate) fn read(alloc: Global, lines: &str) -> Result<Stmts, Fault> {
-    let mut units = read_program(alloc, lines)?.into_units().into_vec();
+    let all = format!(in alloc; "      SUBROUTINE P\n{lines}      END\n")?;
+    let read = read_program(alloc, all.as_bytes())?;
+    let mut units = Box::into_inner(read).into_units().into_vec();
     match units.pop() {
         Some(unit) => Ok(unit.into_body()),
         None => Ok(Stmts::Empty),

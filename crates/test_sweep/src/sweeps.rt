@@ -55,15 +55,11 @@ fn is_adjoint(
     is_text(alloc, plan.adjoint_body(alloc, &body)?, lines)
 }
 
-fn has_adjoint(
-    alloc: Global,
-    called: &Called,
-    callees: &Callees,
-    statements: &str,
-    lines: &str,
-) -> Result<bool, Fault> {
+// The same of statements where no unit is known.
+fn has_adjoint(alloc: Global, statements: &str, lines: &str) -> Result<bool, Fault> {
     let body = read(alloc, statements)?;
-    Ok(is_adjoint(alloc, called, callees, &body, lines)?)
+    let callees = no_callees(alloc)?;
+    Ok(is_adjoint(alloc, &SCALARS, &callees, &body, lines)?)
 }
 
 // Statements and their adjoint.
@@ -119,15 +115,14 @@ const BODIES: [(&str, &str); 2] = [
 ];
 
 #[test]
-fn each_body_has_its_adjoint(rt: HostRuntime) -> Result<(), Fault> {
-    let alloc = rt.alloc();
-    let callees = no_callees(alloc)?;
+fn each_body_has_its_adjoint(rt: HostRuntime) {
     for case in &BODIES {
         let (statements, lines) = *case;
-        let holds = has_adjoint(alloc, &SCALARS, &callees, statements, lines);
-        assert!(rt; holds == Ok(true), "{statements}");
+        assert!(rt;
+            has_adjoint(rt.alloc(), statements, lines) == Ok(true),
+            "{statements}"
+        );
     }
-    Ok(())
 }
 
 // Whether these lines are the forward body for split calls that a plan makes of a body.
@@ -151,7 +146,8 @@ fn is_back(
 }
 
 // Whether these lines are both bodies that are made of a body for split calls, where Y and I are left on the tape.
-fn is_pair(alloc: Global, statements: &Stmts, forth: &str, back: &str) -> Result<bool, Memory> {
+fn is_pair(alloc: Global, statements: &str, forth: &str, back: &str) -> Result<bool, Fault> {
+    let read = read(alloc, statements)?;
     let names = names(alloc, &SCALARS)?;
     let arrays = boxed(alloc, NameSet::new(alloc)?)?;
     let callees = no_callees(alloc)?;
@@ -165,7 +161,7 @@ fn is_pair(alloc: Global, statements: &Stmts, forth: &str, back: &str) -> Result
     };
     let left = listed(alloc, &[b"Y", b"I"])?;
     let body = PairBody {
-        statements,
+        statements: &read,
         number: 0,
         line: 1,
         left: left.as_slice(),
@@ -210,10 +206,8 @@ const BACK: &str = "      CALL POPINTEGER8(I)
 ";
 
 #[test]
-fn a_body_has_a_forward_and_a_backward_body(rt: HostRuntime) -> Result<(), Fault> {
-    let body = read(rt.alloc(), PAIRED)?;
-    assert!(rt; is_pair(rt.alloc(), &body, FORTH, BACK) == Ok(true));
-    Ok(())
+fn a_body_has_a_forward_and_a_backward_body(rt: HostRuntime) {
+    assert!(rt; is_pair(rt.alloc(), PAIRED, FORTH, BACK) == Ok(true));
 }
 
 // The scalars X, Y, Z and I are the variables, and there are marked loops.
@@ -397,14 +391,18 @@ const MARKED: [(&str, &str); 2] = [
     ),
 ];
 
-#[test]
-fn marked_loops_are_reversed_by_schedules(rt: HostRuntime) -> Result<(), Fault> {
-    let alloc = rt.alloc();
+// Whether these lines are the adjoint of statements, where G is known.
+fn has_adjoint_with_steps(alloc: Global, statements: &str, lines: &str) -> Result<bool, Fault> {
+    let body = read(alloc, statements)?;
     let callees = one_callee(alloc, b"G", b"G_B", &STEP)?;
+    Ok(is_adjoint(alloc, &STEPS, &callees, &body, lines)?)
+}
+
+#[test]
+fn marked_loops_are_reversed_by_schedules(rt: HostRuntime) {
     for case in &MARKED {
         let (statements, lines) = *case;
-        let holds = has_adjoint(alloc, &STEPS, &callees, statements, lines);
+        let holds = has_adjoint_with_steps(rt.alloc(), statements, lines);
         assert!(rt; holds == Ok(true), "{statements}");
     }
-    Ok(())
 }

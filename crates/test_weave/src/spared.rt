@@ -1,64 +1,26 @@
 //! What is emitted by exact activity, and by flags that are given of what is kept, saved and needed. What is emitted by the flags of a plan stands in the golden
 //! cases of tests/.
 
-ghost use Rattle.std.specs.Prelude.{◌≡◌, ◌<◌, ℕ, false, IfOk, length};
+ghost use Rattle.std.specs.Prelude.{◌≡◌, ◌<◌, ℕ, false, length};
 ghost use Rattle.adj_tree.specs.View.{procedures_of};
 ghost use Rattle.adj_reach.specs.Edges.{flag};
-ghost use Rattle.adj_symbols.specs.Checked.{IsWrittenIfNamed};
 ghost use Rattle.def_names.specs.Fault.{run_rules};
 ghost use Rattle.law_emitted.specs.Checked.{IsChecked};
 ghost use Rattle.adj_weave_units.specs.Flowing.{IsFlowOf};
 
+use crate::programs::{checked, flags, head};
 use adj_activity::activity;
-use adj_fixed::Mode;
 use adj_flow::Flow;
 use adj_norm_statement::is_kernel;
 use adj_plan::carrying;
 use adj_print::text;
 use adj_sweep::steps::MarkedLoops;
-use adj_symbols::{Checked, check};
-use adj_tree::{BitFlags, Fault, Flags, Head, Kept, Marks, Memory, Program, Saved, boxed};
+use adj_symbols::Checked;
+use adj_tree::{BitFlags, Fault, Head, Kept, Marks, Memory, Saved};
 use adj_weave::{FoundMarks, Marked, adjoint};
 use std::alloc::Global;
 
-// The program of a text.
-fn read(alloc: Global, source: &[u8]) -> Result<Program, Fault>
-    ensures written { IfOk result (λ p. IsWrittenIfNamed (procedures_of p)) }
-{
-    adj_tool_answer::read(alloc, source, Mode::Source)
-}
-
-// A flag for each digit.
-pub(crate) fn flags(alloc: Global, digits: &[u8]) -> Result<Flags, Memory> {
-    let mut flags = Vec::new(alloc);
-    for digit in digits {
-        flags.push(*digit == b'1')?;
-    }
-    Ok(Flags::new(flags))
-}
-
-/// The program of a text, checked.
-pub(crate) fn checked(alloc: Global, source: &[u8]) -> Result<Box<Checked>, Fault> {
-    let program = read(alloc, source)?;
-    let checked = boxed(alloc, check(alloc, program, Mode::Source)?)?;
-    Ok(checked)
-}
-
-/// The first unit as head, with a digit for each dummy, whether it is independent and whether it is dependent.
-pub(crate) fn head(alloc: Global, vars: &[u8], outvars: &[u8]) -> Result<Box<Head>, Memory>
-    ensures first { IfOk result (λ head. head.value.unit ≡ 0) }
-{
-    let vars = flags(alloc, vars)?;
-    let outvars = flags(alloc, outvars)?;
-    let head = Head {
-        unit: 0,
-        vars,
-        outvars,
-    };
-    boxed(alloc, head)
-}
-
-// The same, a bit each.
+// A bit for each digit.
 fn bits(alloc: Global, digits: &[u8]) -> Result<BitFlags, Memory> {
     let mut bits = BitFlags::new(alloc, digits.len())?;
     for (place, digit) in digits.iter().enumerate() {

@@ -5,7 +5,7 @@ ghost use Rattle.adj_tree.specs.View.{procedures_of};
 ghost use Rattle.def_kernel.specs.Form.{IsKernel};
 ghost use Rattle.adj_weave_units.specs.Flowing.{IsFlowOf};
 
-use crate::spared::{checked, flags, head};
+use crate::programs::{checked, flags, head};
 use adj_flow::Flow;
 use adj_norm_statement::is_kernel;
 use adj_plan::carrying;

@@ -1,35 +1,12 @@
 //! Statements and what becomes of them, worked out by hand by docs/KERNEL.md.
 
-use crate::kernels::read;
+use crate::built::{is_text, read};
 use adj_norm_statement::call::lower_call;
 use adj_norm_statement::locals::Locals;
 use adj_norm_statement::target::lower_assignment;
-use adj_print::text;
 use adj_sets::NameSet;
-use adj_tree::{Act, Fault, Items, Memory, Name, Program, Stmt, Stmts, Unit};
+use adj_tree::{Act, Fault, Memory, Stmt, Stmts};
 use std::alloc::Global;
-
-// A unit P with these statements and nothing else.
-fn unit(alloc: Global, body: Stmts) -> Result<Unit, Memory> {
-    Ok(Unit {
-        line: 1,
-        name: Name::from_slice(alloc, b"P")?,
-        dummies: Items::new(Vec::new(alloc)),
-        none: false,
-        decls: Items::new(Vec::new(alloc)),
-        body,
-    })
-}
-
-// Its text.
-fn written(alloc: Global, body: Stmts) -> Result<Vec<u8>, Memory> {
-    let mut units = Vec::new(alloc);
-    units.push(unit(alloc, body)?)?;
-    let program = Program {
-        units: Items::new(units),
-    };
-    text(alloc, &program)
-}
 
 // Writes what becomes of an assignment or of a CALL of G, which writes its first dummy alone.
 fn lower_act(
@@ -63,19 +40,6 @@ fn lower_two(
     Ok(())
 }
 
-// Writes what becomes of the first two statements of each unit.
-fn lower_units(
-    alloc: Global,
-    locals: &mut Locals<'_>,
-    program: &Program,
-    steps: &mut Vec<Stmt>,
-) -> Result<(), Memory> {
-    for unit in program.units.as_slice() {
-        lower_two(alloc, locals, &unit.body, steps)?;
-    }
-    Ok(())
-}
-
 fn taken(alloc: Global) -> Result<NameSet, Memory> {
     let mut taken = NameSet::new(alloc)?;
     taken.add(alloc, b"X")?;
@@ -83,29 +47,28 @@ fn taken(alloc: Global) -> Result<NameSet, Memory> {
     Ok(taken)
 }
 
-// What the two statements of a unit become, where ADV2 is taken.
-fn lowered(alloc: Global, program: &Program) -> Result<Stmts, Memory> {
+// What the first two statements of a list become, where ADV2 is taken.
+fn lowered(alloc: Global, body: &Stmts) -> Result<Stmts, Memory> {
     let taken = taken(alloc)?;
     let mut locals = Locals::new(alloc, &taken, &[])?;
     let mut steps = Vec::new(alloc);
-    lower_units(alloc, &mut locals, program, &mut steps)?;
+    lower_two(alloc, &mut locals, body, &mut steps)?;
     Stmts::from_vec(alloc, steps)
 }
 
-// Whether the two statements of a text become those of another.
-fn become_those_of(alloc: Global, source: &[u8], expected: &[u8]) -> Result<bool, Fault> {
-    let program = read(alloc, source)?;
-    let body = lowered(alloc, &program)?;
-    Ok(written(alloc, body)?.as_slice() == expected)
+// Whether two statements become these lines.
+fn become_those(alloc: Global, statements: &str, lines: &str) -> Result<bool, Fault> {
+    let body = read(alloc, statements)?;
+    let lowered = lowered(alloc, &body)?;
+    Ok(is_text(alloc, lowered, lines)?)
 }
 
-// What a unit of two statements shows, its text and that of what they become.
-const STATEMENTS: [(&str, &[u8], &[u8]); 3] = [
+// What two statements show, their text and that of what they become.
+const STATEMENTS: [(&str, &str, &str); 3] = [
     (
         "choices become IFs, and locals begin again",
-        b"      SUBROUTINE P\n      X=MAX(X,Y)\n      X=ABS(Y)*MIN(1,Y)\n      END\n",
-        b"      SUBROUTINE P
-      ADV1=X
+        "      X=MAX(X,Y)\n      X=ABS(Y)*MIN(1,Y)\n",
+        "      ADV1=X
       ADV2_1=Y
       IF (ADV1.LT.ADV2_1) THEN
       ADV1=ADV2_1
@@ -121,28 +84,24 @@ const STATEMENTS: [(&str, &[u8], &[u8]); 3] = [
       ADV2_1=ADV3
       END IF
       X=ADV1*ADV2_1
-      END
 ",
     ),
     (
         "elements are set apart and put back",
-        b"      SUBROUTINE P\n      A(A(I))=A(J)\n      CALL G(A(I),A(J))\n      END\n",
-        b"      SUBROUTINE P
-      ADV1=A(I)
+        "      A(A(I))=A(J)\n      CALL G(A(I),A(J))\n",
+        "      ADV1=A(I)
       A(ADV1)=A(J)
       ADV1=I
       ADV2_1=A(ADV1)
       ADV3=A(J)
       CALL G(ADV2_1,ADV3)
       A(ADV1)=ADV2_1
-      END
 ",
     ),
     (
         "a name stands once in a call",
-        b"      SUBROUTINE P\n      CALL G(X,X)\n      CALL G(MAX(X,Y),X)\n      END\n",
-        b"      SUBROUTINE P
-      ADV1=X
+        "      CALL G(X,X)\n      CALL G(MAX(X,Y),X)\n",
+        "      ADV1=X
       CALL G(X,ADV1)
       ADV1=X
       ADV2_1=Y
@@ -150,7 +109,6 @@ const STATEMENTS: [(&str, &[u8], &[u8]); 3] = [
       ADV1=ADV2_1
       END IF
       CALL G(ADV1,X)
-      END
 ",
     ),
 ];
@@ -160,7 +118,7 @@ fn each_statement_becomes_others(rt: HostRuntime) {
     for case in &STATEMENTS {
         let (shows, source, expected) = *case;
         assert!(rt;
-            become_those_of(rt.alloc(), source, expected) == Ok(true),
+            become_those(rt.alloc(), source, expected) == Ok(true),
             "{shows}"
         );
     }

@@ -1,24 +1,14 @@
 //! Texts, and the kernels of their programs.
 
-use adj_common::lower_common;
-use adj_fixed::{Mode, statements};
+use crate::built::read_program;
 use adj_norm::kernel;
-use adj_parse::program;
 use adj_print::text;
-use adj_tree::{Fault, Program, boxed};
+use adj_tree::{Fault, boxed};
 use std::alloc::Global;
-
-/// The program of a text.
-pub(crate) fn read(alloc: Global, source: &[u8]) -> Result<Box<Program>, Fault> {
-    let stated = statements(alloc, source, Mode::Source)?;
-    let read = program(alloc, stated.as_slice(), Mode::Source)?;
-    let lowered = boxed(alloc, lower_common(alloc, read)?)?;
-    Ok(lowered)
-}
 
 // The text of the kernel of a program that is read from a text.
 fn kernel_text(alloc: Global, source: &[u8]) -> Result<Vec<u8>, Fault> {
-    let read = read(alloc, source)?;
+    let read = read_program(alloc, source)?;
     let made = boxed(alloc, kernel(alloc, &read)?)?;
     let printed = text(alloc, &made)?;
     Ok(printed)

@@ -1,6 +1,6 @@
 //! Small programs, in kernel form and not.
 
-use crate::kernels::read;
+use crate::built::read_program;
 use adj_norm_statement::is_kernel;
 use adj_tree::Fault;
 use std::alloc::Global;
@@ -26,7 +26,7 @@ const FORMS: [(&[u8], bool); 7] = [
 ];
 
 fn has_form(alloc: Global, text: &[u8]) -> Result<bool, Fault> {
-    let program = read(alloc, text)?;
+    let program = read_program(alloc, text)?;
     Ok(is_kernel(&program))
 }
 

@@ -1,6 +1,6 @@
 //! Programs of texts, their heads, and flags.
 
-ghost use Rattle.std.specs.Prelude.{IfOk};
+ghost use Rattle.std.specs.Prelude.{◌≡◌, IfOk};
 ghost use Rattle.adj_tree.specs.View.{procedures_of};
 ghost use Rattle.adj_symbols.specs.Checked.{IsWrittenIfNamed};
 
@@ -23,8 +23,8 @@ pub(crate) fn checked(alloc: Global, source: &[u8]) -> Result<Box<Checked>, Faul
     Ok(checked)
 }
 
-// A flag for each digit.
-fn flags(alloc: Global, digits: &[u8]) -> Result<Flags, Memory> {
+/// A flag for each digit.
+pub(crate) fn flags(alloc: Global, digits: &[u8]) -> Result<Flags, Memory> {
     let mut flags = Vec::new(alloc);
     for digit in digits {
         flags.push(*digit == b'1')?;
@@ -33,7 +33,9 @@ fn flags(alloc: Global, digits: &[u8]) -> Result<Flags, Memory> {
 }
 
 /// The first unit as head, whose dummies with a 1 are independent, and dependent.
-pub(crate) fn head(alloc: Global, vars: &[u8], outvars: &[u8]) -> Result<Box<Head>, Memory> {
+pub(crate) fn head(alloc: Global, vars: &[u8], outvars: &[u8]) -> Result<Box<Head>, Memory>
+    ensures first { IfOk result (λ head. head.value.unit ≡ 0) }
+{
     let vars = flags(alloc, vars)?;
     let outvars = flags(alloc, outvars)?;
     let head = Head {
