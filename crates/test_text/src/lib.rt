@@ -18,5 +18,7 @@ mod read;
 #[cfg(test)]
 mod readings;
 mod texts;
+#[cfg(test)]
+mod trees;
 
 pub use texts::{push_line, push_statement};
