@@ -4,6 +4,10 @@ BEGIN {
   # the words of local arrays that a unit may have on the stack, altogether and in one array
   on_stack = 4096
   in_one = 1024
+  # the statements of a loop that may go in strips
+  in_strips = 100
+  # whether a push looks for room, and a pop for a word
+  looks = 1
   for (text = 1; text < ARGC; text++) {
     read_text(ARGV[text])
     find_sources()
@@ -94,9 +98,14 @@ function write_unit(    i, opened) {
       if (has_words) put(own "H=" own "G")
       opened = 1
     }
-    write_statement(i)
+    if (has_words && goes_in_strips(i)) {
+      write_strips(i)
+      i = loop_end
+    } else {
+      write_statement(i)
+    }
     if (i == first[unit] && uses != "") put("USE ADJOINT_TAPE,ONLY:" substr(uses, 2))
-    if (i == last_declaration && has_words) put("INTEGER*8 " own "H")
+    if (i == last_declaration && has_words) put("INTEGER*8 " own "H" (has_strips ? "," own "F," own "L," own "S," own "N," own "M," own "K" : ""))
     # so that no unit is taken for a subroutine of the compiler, such as EXIT
     if (i == last_declaration && externals != "") put("EXTERNAL " substr(externals, 2))
   }
@@ -104,6 +113,91 @@ function write_unit(    i, opened) {
 
 function put(text) {
   print "      " text > path
+}
+
+# Whether a statement begins a loop whose turns push or pop words and do no other calls, and that has no loop within. Then `loop_end` is the last statement of the
+# loop, `loop_variable` its variable, `bounds` has what the DO says of it, and `pushes` and `pops` are how many words a turn pushes and pops at most.
+function goes_in_strips(i,    text, k) {
+  if (!match(bare[i], /^DO[A-Z][A-Z0-9_]*=/) || has_label(i)) return 0
+  loop_variable = substr(bare[i], 3, RLENGTH - 3)
+  if (split_at_commas(substr(bare[i], RLENGTH + 1), bounds) < 2) return 0
+  pushes = pops = 0
+  for (k = i + 1; k <= i + in_strips; k++) {
+    text = bare[k]
+    loop_end = k
+    if (text == "ENDDO") return pushes + pops > 0
+    if (text ~ /^DO/ || text == "END" || has_label(k)) return 0
+    if (text ~ /^CALLPUSH(INTEGER8|CONTROL1B)\(/) pushes++
+    else if (text ~ /^CALLPOP(INTEGER8|CONTROL1B)\(/) pops++
+    else if (text ~ /CALL/ && text !~ /^CALLADZERO8\(/) return 0
+  }
+  return 0
+}
+
+function has_label(i) {
+  return substr(statement[i], 1, 5) !~ /^ *$/
+}
+
+# The parts of a text between the commas that stand in no parentheses: their number is given back.
+function split_at_commas(text, parts,    at, from, open, letter, count) {
+  split("", parts)
+  from = 1
+  for (at = 1; at <= length(text) + 1; at++) {
+    letter = substr(text ",", at, 1)
+    open += (letter == "(") - (letter == ")")
+    if (letter == "," && !open) {
+      parts[++count] = substr(text, from, at - from)
+      from = at + 1
+    }
+  }
+  return count
+}
+
+# The loop that was just looked at, in strips. A strip is as many turns as the chunk with the tape's top has words and room for, however many of them they push and
+# pop. They look at neither, and call nothing: so a compiler can keep their variables in registers, and copy words in blocks. One turn that looks stands between
+# two strips.
+function write_strips(i,    step) {
+  step = 3 in bounds ? bounds[3] : 1
+  put(own "F=" bounds[1])
+  put(own "L=" bounds[2])
+  put(own "S=" step)
+  put_turns(own "F", own "L", own "S")
+  put(loop_variable "=" own "F")
+  put("DO WHILE(" own "N.GT.0)")
+  put(own "M=" own "N")
+  if (pushes) put_most("(" own "R-" own "H)/" pushes)
+  if (pops) put_most(own "H/" pops)
+  put("DO " own "K=1," own "M")
+  looks = 0
+  write_turn(i)
+  looks = 1
+  put("END DO")
+  put(own "N=" own "N-" own "M")
+  put("IF(" own "N.GT.0)THEN")
+  write_turn(i)
+  put(own "N=" own "N-1")
+  put("END IF")
+  put("END DO")
+}
+
+# How many turns a loop has; what isn't usual is left to the runtime: a loop of none, and one whose bounds are further apart than a word can say.
+function put_turns(first, last, step,    apart) {
+  apart = last "-" first
+  put("IF(" step ".GT.0.AND." first ".LE." last ".AND." apart ".GE.0.OR." step ".LT.0.AND." first ".GE." last ".AND." apart ".LE.0)THEN")
+  put(own "N=(" apart ")/" step "+1")
+  put("ELSE")
+  put(own "N=" own "T(" first "," last "," step ")")
+  put("END IF")
+}
+
+function put_most(turns) {
+  put("IF(" own "M.GT." turns ")" own "M=" turns)
+}
+
+# A turn of the loop that was just looked at, with the step to the next one.
+function write_turn(i,    k) {
+  for (k = i + 1; k < loop_end; k++) write_statement(k)
+  put(loop_variable "=" loop_variable "+" own "S")
 }
 
 # Sets what the unit's statements are written by: its declarations, the arrays that are too long for the stack, the parts of the runtime
@@ -136,6 +230,9 @@ function look_at_unit(    i, parts, count, k, seen, calls, name, called) {
   for (calls in seen) if (calls ~ /ARRAY$/) uses = uses "," calls
   has_words = ("PUSHINTEGER8" in seen) || ("PUSHCONTROL1B" in seen) || ("POPINTEGER8" in seen) || ("POPCONTROL1B" in seen)
   if (has_words) uses = uses "," own "W=>HERE," own "G=>HEIGHT," own "R=>ROOM," own "U=>TAPE_UP," own "D=>TAPE_DOWN"
+  has_strips = 0
+  for (i = last_declaration + 1; has_words && !has_strips && i <= last[unit]; i++) has_strips = goes_in_strips(i)
+  if (has_strips) uses = uses "," own "T=>TURNS"
 }
 
 function look_at_members(text,    items, count, k) {
@@ -169,17 +266,21 @@ function write_statement(i,    text, label) {
   if (is_declaration(text)) {
     write_declaration(text)
   } else if (match(text, /^CALLPUSH(INTEGER8|CONTROL1B)\(/)) {
-    print label "IF(" own "H.GE." own "R)THEN" > path
-    put("CALL " own "U")
-    put(own "H=0")
-    put("END IF")
+    if (looks) {
+      print label "IF(" own "H.GE." own "R)THEN" > path
+      put("CALL " own "U")
+      put(own "H=0")
+      put("END IF")
+    }
     put(own "H=" own "H+1")
     put(own "W%WORDS(" own "H)=" inner(text, RLENGTH))
   } else if (match(text, /^CALLPOP(INTEGER8|CONTROL1B)\(/)) {
-    print label "IF(" own "H.LE.0)THEN" > path
-    put("CALL " own "D('" substr(text, 5, RLENGTH - 5) "')")
-    put(own "H=" own "R")
-    put("END IF")
+    if (looks) {
+      print label "IF(" own "H.LE.0)THEN" > path
+      put("CALL " own "D('" substr(text, 5, RLENGTH - 5) "')")
+      put(own "H=" own "R")
+      put("END IF")
+    }
     put(inner(text, RLENGTH) "=" own "W%WORDS(" own "H)")
     put(own "H=" own "H-1")
   } else if (match(text, /^CALLADZERO8\(/)) {

@@ -2,13 +2,13 @@
 ! Standard Fortran 2008 with no dependency. The calls and their meaning stand in docs/RUNNING.md, the schedule in docs/SCHEDULES.md.
 
 ! The tape: chunks of one size, each taken when it is needed first and kept from then on. Nothing is copied when the tape grows.
-! `runtime/prepare` writes the push and the pop of a word into a text, by `here`, `height`, `room`, `tape_up` and `tape_down`.
+! `runtime/prepare` writes the push and the pop of a word into a text, by `here`, `height`, `room`, `tape_up` and `tape_down`, and loops of them by `turns`.
 module adjoint_tape
   use, intrinsic :: iso_fortran_env, only: int64, error_unit
   implicit none
   private
   public :: word, push, pop, left, pushinteger8array, popinteger8array, stop_with
-  public :: here, height, room, tape_up, tape_down
+  public :: here, height, room, tape_up, tape_down, turns
 
   integer, parameter :: word = int64
   ! The words of a chunk: 8 MiB, of which a system gives memory to those that are written.
@@ -81,6 +81,30 @@ contains
     at = at - 1
     height = room
   end subroutine tape_down
+
+  ! How many turns a DO has with such bounds and such a step, which isn't 0. The bounds may be further apart than a word can say.
+  pure integer(word) function turns(first, last, step)
+    integer(word), intent(in) :: first, last, step
+    integer(word) :: edge, before, next
+    turns = 0
+    if (leads_past(first, last, step)) return
+    if ((first < 0) .eqv. (last < 0)) then
+      turns = (last - first) / step + 1
+    else
+      ! the turns on the side of 0 where the first one is, and then those on the other
+      edge = merge(-1_word, 0_word, first < 0)
+      before = (edge - first) / step
+      next = first + before * step + step
+      turns = before + 1
+      if (.not. leads_past(next, last, step)) turns = turns + (last - next) / step + 1
+    end if
+  end function turns
+
+  ! Whether a loop ends before a place.
+  pure logical function leads_past(place, last, step)
+    integer(word), intent(in) :: place, last, step
+    leads_past = (step > 0 .and. place > last) .or. (step < 0 .and. place < last)
+  end function leads_past
 
   subroutine push_vector(a)
     integer(word), contiguous, intent(in) :: a(:)

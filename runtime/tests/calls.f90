@@ -4,7 +4,7 @@
 ! names a call that must stop the program.
 program calls
   use, intrinsic :: iso_fortran_env, only: int64, error_unit
-  use adjoint_tape, only: pushinteger8array, popinteger8array
+  use adjoint_tape, only: pushinteger8array, popinteger8array, turns
   implicit none
   integer(int64), external :: adtape
   ! more words than two chunks have
@@ -20,6 +20,7 @@ program calls
     call test_numbers()
     call test_long_schedules()
     call test_nests()
+    call test_loops()
   case (1)
     call fail_by(argument)
   case default
@@ -254,6 +255,33 @@ contains
     end do
     call adend()
   end subroutine reverse
+
+  ! How many turns a DO has: as the compiler makes them, and where its bounds are further apart than a word can say.
+  subroutine test_loops()
+    integer(int64), parameter :: greatest = huge(1_int64)
+    integer(int64) :: first, last, step, i, counted
+    do first = -7, 7
+      do last = -7, 7
+        do step = -6, 6
+          if (step == 0) cycle
+          counted = 0
+          do i = first, last, step
+            counted = counted + 1
+          end do
+          call check(turns(first, last, step) == counted, 'the turns of a loop')
+        end do
+      end do
+    end do
+    call check(turns(1_int64, greatest, 1_int64) == greatest, 'as many turns as a word can say')
+    call check(turns(-1_int64, -greatest, -1_int64) == greatest, 'as many turns as a word can say, downwards')
+    call check(turns(-greatest, greatest - 2, 2_int64) == greatest, 'as many turns from end to end')
+    call check(turns(-greatest, greatest, greatest) == 3, 'three turns over all words')
+    call check(turns(greatest, -greatest - 1, -greatest) == 3, 'three turns over all words, downwards')
+    call check(turns(-greatest - 1, greatest - 1, greatest) == 3, 'three turns from the least word')
+    call check(turns(greatest, -greatest - 1, -greatest - 1) == 2, 'two turns by the least word')
+    call check(turns(greatest, -greatest, 1_int64) == 0, 'no turn against the step')
+    call check(turns(-greatest, greatest, -1_int64) == 0, 'no turn against the step, downwards')
+  end subroutine test_loops
 
   subroutine fail_by(way)
     character(*), intent(in) :: way
