@@ -4,8 +4,9 @@ BEGIN {
   # the words of local arrays that a unit may have on the stack, altogether and in one array
   on_stack = 4096
   in_one = 1024
-  # the statements of a loop that may go in strips
+  # the statements of a loop that may go in strips, and the turns below which strips cost more than they save
   in_strips = 100
+  few_turns = 8
   # whether a push looks for room, and a pop for a word
   looks = 1
   for (text = 1; text < ARGC; text++) {
@@ -115,12 +116,12 @@ function put(text) {
   print "      " text > path
 }
 
-# Whether a statement begins a loop whose turns push or pop words and do no other calls, and that has no loop within. Then `loop_end` is the last statement of the
+# Whether a statement begins a loop whose turns push or pop words and do no other calls, that has no loop within, and whose turns aren't few by its text. Then `loop_end` is the last statement of the
 # loop, `loop_variable` its variable, `bounds` has what the DO says of it, and `pushes` and `pops` are how many words a turn pushes and pops at most.
 function goes_in_strips(i,    text, k) {
   if (!match(bare[i], /^DO[A-Z][A-Z0-9_]*=/) || has_label(i)) return 0
   loop_variable = substr(bare[i], 3, RLENGTH - 3)
-  if (split_at_commas(substr(bare[i], RLENGTH + 1), bounds) < 2) return 0
+  if (split_at_commas(substr(bare[i], RLENGTH + 1), bounds) < 2 || has_few_turns()) return 0
   pushes = pops = 0
   for (k = i + 1; k <= i + in_strips; k++) {
     text = bare[k]
@@ -132,6 +133,14 @@ function goes_in_strips(i,    text, k) {
     else if (text ~ /CALL/ && text !~ /^CALLADZERO8\(/) return 0
   }
   return 0
+}
+
+# Whether the bounds of the loop that is looked at are literals with few turns between them.
+function has_few_turns(    literal, step) {
+  literal = "^-?[0-9]+$"
+  step = 3 in bounds ? bounds[3] : 1
+  if (bounds[1] !~ literal || bounds[2] !~ literal || step !~ literal || step + 0 == 0) return 0
+  return (bounds[2] - bounds[1]) / step + 1 < few_turns
 }
 
 function has_label(i) {

@@ -54,6 +54,17 @@ C     words that come and go within a turn, more of them pushed than popped
       CALL POPINTEGER8(K)
       Y=Y*31+K
       END DO
+C     literal bounds with eight turns between them, and with seven, for which no strip is made
+      DO I=3,-11,-2
+      CALL PUSHINTEGER8(I)
+      END DO
+      Y=Y*31+I
+      DO I=-6,0
+      CALL POPINTEGER8(K)
+      Y=Y*31+K
+      END DO
+      CALL POPINTEGER8(K)
+      Y=Y*31+K*I
 C     bounds that are set anew within the loop, and made of its variable before
       K=2
       L=19
@@ -85,7 +96,8 @@ C     a step that is no literal, and the border in the middle of a turn
       END DO
       Y=Y*31+I
 C     bounds that are further apart than a word can say, up and down
-      DO I=-9000000000000000000,9000000000000000000,4000000000000000000
+      L=-9000000000000000000
+      DO I=L,9000000000000000000,4000000000000000000
       CALL PUSHINTEGER8(I)
       END DO
       Y=Y*31+I
@@ -95,11 +107,12 @@ C     bounds that are further apart than a word can say, up and down
       END DO
       Y=Y*31+I
 C     no turn
-      DO I=9000000000000000000,-9000000000000000000
+      DO I=9000000000000000000,L
       CALL PUSHINTEGER8(I)
       END DO
       Y=Y*31+I
-      DO I=3,2
+      K=2
+      DO I=3,K
       CALL PUSHINTEGER8(I)
       END DO
       Y=Y*31+I
