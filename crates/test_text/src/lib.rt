@@ -8,6 +8,8 @@ mod conditions;
 #[cfg(test)]
 mod expressions;
 #[cfg(test)]
+mod fronts;
+#[cfg(test)]
 mod heads;
 #[cfg(test)]
 mod lines;

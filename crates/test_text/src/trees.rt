@@ -1,7 +1,12 @@
-//! Expressions and conditions, as a unit with one of them is printed.
+//! Expressions and conditions, as they are read and as a unit with one of them is printed.
 
+ghost use Rattle.std.specs.Prelude.{◌<◌};
+ghost use Rattle.adj_parse_expression.specs.Front.{AreSlices};
+
+use adj_parse_expression::{Flaw, condition, expression};
 use adj_print::text;
 use adj_tree::{Act, Cond, Expr, Exprs, Items, Memory, Name, Place, Program, Stmt, Stmts, Unit};
+use def_text::Token;
 use std::alloc::Global;
 
 // An assignment to X.
@@ -42,18 +47,54 @@ fn printed(alloc: Global, body: Stmts) -> Result<Vec<u8>, Memory> {
     text(alloc, &program)
 }
 
-/// Whether an expression is printed so.
-pub(crate) fn is_expression(alloc: Global, expr: Box<Expr>, wanted: &str) -> Result<bool, Memory> {
-    let text = printed(alloc, assignment(alloc, expr)?)?;
-    let whole = format!(in alloc; "      SUBROUTINE P\n      X={wanted}\n      END\n")?;
-    Ok(text.as_slice() == whole.as_bytes())
+/// A tree that a text has at its front, and that can stand in a unit.
+pub(crate) trait Tree: Sized + Drop {
+    /// The tree at the front of the tokens of a text, of which a limit bounds the depth, or its flaw, and the tokens after it.
+    fn read<'t>(
+        alloc: Global,
+        text: &[u8],
+        tokens: &'t [Token],
+        limit: u32,
+    ) -> Result<Option<(Result<Self, Flaw>, &'t [Token])>, Memory>
+        requires slices { AreSlices text.now tokens.now }
+        requires limit { limit < 1000 };
+
+    /// Whether it is printed so.
+    fn is_printed(self, alloc: Global, wanted: &str) -> Result<bool, Memory>;
 }
 
-/// Whether a condition is printed so.
-pub(crate) fn is_condition(alloc: Global, cond: Box<Cond>, wanted: &str) -> Result<bool, Memory> {
-    let text = printed(alloc, branch(alloc, cond)?)?;
-    let whole = format!(in alloc;
-        "      SUBROUTINE P\n      IF ({wanted}) THEN\n      END IF\n      END\n"
-    )?;
-    Ok(text.as_slice() == whole.as_bytes())
+impl Tree for Box<Expr> {
+    fn read<'t>(
+        alloc: Global,
+        text: &[u8],
+        tokens: &'t [Token],
+        limit: u32,
+    ) -> Result<Option<(Result<Box<Expr>, Flaw>, &'t [Token])>, Memory> {
+        expression(alloc, text, tokens, limit)
+    }
+
+    fn is_printed(self, alloc: Global, wanted: &str) -> Result<bool, Memory> {
+        let text = printed(alloc, assignment(alloc, self)?)?;
+        let whole = format!(in alloc; "      SUBROUTINE P\n      X={wanted}\n      END\n")?;
+        Ok(text.as_slice() == whole.as_bytes())
+    }
+}
+
+impl Tree for Box<Cond> {
+    fn read<'t>(
+        alloc: Global,
+        text: &[u8],
+        tokens: &'t [Token],
+        limit: u32,
+    ) -> Result<Option<(Result<Box<Cond>, Flaw>, &'t [Token])>, Memory> {
+        condition(alloc, text, tokens, limit)
+    }
+
+    fn is_printed(self, alloc: Global, wanted: &str) -> Result<bool, Memory> {
+        let text = printed(alloc, branch(alloc, self)?)?;
+        let whole = format!(in alloc;
+            "      SUBROUTINE P\n      IF ({wanted}) THEN\n      END IF\n      END\n"
+        )?;
+        Ok(text.as_slice() == whole.as_bytes())
+    }
 }
