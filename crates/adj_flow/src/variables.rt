@@ -4,26 +4,12 @@ ghost use Rattle.std.specs.Prelude.{◌≡◌, ◌++◌, OnOk};
 ghost use Rattle.adj_tree.specs.View.{term_of, terms_of};
 ghost use Rattle.def_flow.specs.Problem.{name_of};
 ghost use Rattle.def_flow.specs.Rules.{list_of};
-ghost use Rattle.def_names.specs.VariableLists.{list_if, vars_in, vars_in_terms};
+ghost use Rattle.def_names.specs.VariableLists.{list_if, vars_in_terms};
 ghost use Rattle.adj_symbols_writes.specs.View.{vars_seen};
 ghost use Rattle.adj_flow.specs.Passed.{passed_in};
 
-use adj_symbols_writes::variables::{add_if, add_term, add_terms};
+use adj_symbols_writes::variables::{add_if, add_terms};
 use adj_tree::{Expr, Exprs, Memory, Name};
-
-/// Adds what stands in an expression, if it is wanted.
-pub fn add_term_if<'a>(
-    term: &'a Expr,
-    is_wanted: bool,
-    out: &mut Vec<&'a Name>,
-) -> Result<(), Memory>
-    ensures added { OnOk result (vars_seen out.new.items ≡ vars_seen out.old.items ++ list_if is_wanted (vars_in (term_of term.now))) }
-{
-    if is_wanted {
-        add_term(term, out)?;
-    }
-    Ok(())
-}
 
 /// Adds what stands in some expressions, if it is wanted.
 pub fn add_terms_if<'a>(
