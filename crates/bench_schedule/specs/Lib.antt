@@ -1,3 +1,0 @@
--- the definitions of the crate, a module a subject
-pub mod Job
-pub mod Splits
