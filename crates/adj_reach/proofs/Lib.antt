@@ -6,5 +6,4 @@ pub mod Placing
 pub mod Sums
 pub mod Marking
 pub mod Searching
-pub mod Spreading
 pub mod Greatest

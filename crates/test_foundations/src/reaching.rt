@@ -2,9 +2,8 @@
 
 ghost use Rattle.std.specs.Prelude.{◌<◌, All, IfOk, length};
 ghost use Rattle.adj_reach.specs.Edges.{AreBelow};
-ghost use Rattle.adj_reach.specs.Arcs.{IsWithin};
 
-use adj_reach::{Arc, Kind, reach, reach_back, spread};
+use adj_reach::{reach, reach_back};
 use adj_tree::Memory;
 use std::alloc::Global;
 
@@ -89,78 +88,4 @@ fn leads_along(alloc: Global) -> Result<bool, Memory> {
 #[test]
 fn a_long_chain_listed_backwards_ends_at_once(rt: HostRuntime) {
     assert!(rt; leads_along(rt.alloc()) == Ok(true));
-}
-
-// Three points of two variables: variable 1 stays on the way from 0 to 1, where 0 is replaced by it; from 1 to 2 both stay; and back from 2 to 1.
-const ARCS: [Arc; 4] = [
-    Arc {
-        from: 0,
-        kind: Kind::Keep(1, 0),
-    },
-    Arc {
-        from: 0,
-        kind: Kind::Turn(1, 2),
-    },
-    Arc {
-        from: 1,
-        kind: Kind::Keep(2, 2),
-    },
-    Arc {
-        from: 2,
-        kind: Kind::Keep(1, 2),
-    },
-];
-
-// Whether a variable at the first point leads to these.
-fn spreads(alloc: Global, start: usize, wanted: &[bool]) -> Result<bool, Memory>
-    requires { start < 2 }
-{
-    let found = spread(alloc, 3, 2, &ARCS, &[start])?;
-    Ok(found.as_slice() == wanted)
-}
-
-#[test]
-fn variables_stay_but_for_one_or_turn_into_another(rt: HostRuntime) {
-    let alloc = rt.alloc();
-    assert!(rt; spreads(alloc, 0, &[true, false, false, false, false, false]) == Ok(true));
-    assert!(rt; spreads(alloc, 1, &[false, true, true, true, true, true]) == Ok(true));
-}
-
-// The arcs of a chain of points, the last first, on which each of `width` variables stays.
-fn ways_backwards(alloc: Global, points: usize, width: usize) -> Result<Vec<Arc>, Memory>
-    requires { 0 < points }
-    ensures { IfOk result (λ arcs. All (IsWithin width points) arcs.items) }
-{
-    let mut arcs = Vec::new(alloc);
-    for i in 1..points {
-        arcs.push(Arc {
-            from: points - 1 - i,
-            kind: Kind::Keep(points - i, width),
-        })?;
-    }
-    Ok(arcs)
-}
-
-// The numbers below one.
-fn numbers(alloc: Global, count: usize) -> Result<Vec<usize>, Memory>
-    ensures { IfOk result (λ numbers. All (λ x. x < count) numbers.items) }
-{
-    let mut numbers = Vec::new(alloc);
-    for i in 0..count {
-        numbers.push(i)?;
-    }
-    Ok(numbers)
-}
-
-// Whether each variable at the first of many points leads to itself at all of them.
-fn spread_along(alloc: Global) -> Result<bool, Memory> {
-    let arcs = ways_backwards(alloc, 20_000, 200)?;
-    let start = numbers(alloc, 200)?;
-    let flags = spread(alloc, 20_000, 200, arcs.as_slice(), start.as_slice())?;
-    Ok(!flags.as_slice().contains(&false))
-}
-
-#[test]
-fn many_variables_over_many_points_end_at_once(rt: HostRuntime) {
-    assert!(rt; spread_along(rt.alloc()) == Ok(true));
 }
