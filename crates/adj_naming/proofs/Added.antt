@@ -5,7 +5,7 @@ use Rattle.adj_tree.specs.Code.{Var, name_eq}
 use Rattle.adj_tree.proofs.Names.{name_refl, name_same}
 use Rattle.def_meaning.specs.Apart.{has_name, AreApart}
 use Rattle.def_names.specs.Fresh.{candidate, first_free, fresh}
-use Rattle.def_sweep.specs.Naming.{Named, named, wanted}
+use Rattle.def_sweep.specs.Naming.{Derived, Named, named_for, wanted_for}
 use Rattle.def_names.proofs.Variables.{or_assoc, or_right, or_false, not_true}
 use Rattle.def_names.proofs.Fresh.{fresh-is_free}
 use Rattle.adj_sets.specs.Sets.{with_added, all_added}
@@ -88,17 +88,17 @@ pub fresh_alike : (b : List ℕ) (xs ys : List (List ℕ)) → SameNames xs ys �
 fresh_alike b xs ys h = alike (length xs) (length ys) 0 b xs ys h (fresh-is_free b xs) (fresh-is_free b ys)
 
 -- variables get the same names
-pub named_alike : (xs ys : List (List ℕ)) (vs : List Var) → SameNames xs ys → named xs vs ≡ named ys vs
-named_alike xs ys [] h = refl
-named_alike xs ys (v ∷ vs) h =
-    let f = fresh (wanted v) xs in
-    let g = fresh (wanted v) ys in
-    let same : f ≡ g = fresh_alike (wanted v) xs ys h in
+pub named_alike : (o : Derived) (xs ys : List (List ℕ)) (vs : List Var) → SameNames xs ys → named_for o xs vs ≡ named_for o ys vs
+named_alike o xs ys [] h = refl
+named_alike o xs ys (v ∷ vs) h =
+    let f = fresh (wanted_for o v) xs in
+    let g = fresh (wanted_for o v) ys in
+    let same : f ≡ g = fresh_alike (wanted_for o v) xs ys h in
     let next : SameNames (xs ++ f ∷ []) (ys ++ g ∷ []) = record { at = λ x. has-behind x xs (f ∷ []) ∙ (λ i. h.at x i || has_name x (same i ∷ [])) ∙ sym (has-behind x ys (g ∷ [])) } in
     let first : Named = record { variable = v; name = f } in
     let second : Named = record { variable = v; name = g } in
     let heads : first ≡ second = λ i. record { variable = v; name = same i } in
-    λ i. heads i ∷ named_alike (xs ++ f ∷ []) (ys ++ g ∷ []) vs next i
+    λ i. heads i ∷ named_alike o (xs ++ f ∷ []) (ys ++ g ∷ []) vs next i
 
 -- each name of a list once
 pub once_same : (ys : List (List ℕ)) → SameNames (all_added [] ys) ys

@@ -1,12 +1,12 @@
 -- Helpers of different roles and numbers are different.
-use Rattle.std.proofs.Common.{◌≡◌, ℕ, zero, suc, Bool, true, false, List, [], ◌∷◌, ◌++◌, ◌+◌, ◌-◌, ◌<◌, map, refl, sym, ap, ◌∙◌, subst, arith, append_assoc, add-one}
+use Rattle.std.proofs.Common.{◌≡◌, ℕ, zero, suc, Bool, true, false, List, [], ◌∷◌, ◌++◌, ◌+◌, ◌-◌, ◌<◌, map, refl, sym, ap, ◌∙◌, arith, append_assoc, add-one}
 use Rattle.std.specs.Prelude.{◌||◌, ◌&&◌, ◌==◌}
 use Rattle.std.proofs.lemmas.List.{map_push}
 use Rattle.adj_tree.specs.Code.{Var, plain, shadow, helper, var_eq, role_code}
 use Rattle.adj_tree.specs.Code as code
 use Rattle.adj_tree.proofs.Names.{nat_same, nat_refl}
 use Rattle.def_sweep.specs.Declared.{helpers_from}
-use Rattle.def_names.proofs.Variables.{or_false, or_assoc, or_right, not_true}
+use Rattle.def_names.proofs.Variables.{or_assoc, or_right, not_true}
 use Rattle.def_meaning.proofs.Variables.{var_refl, var_same}
 use Rattle.adj_naming.specs.declared.role.Role.{Role}
 use Rattle.adj_naming.specs.declared.role.Helper.{Helper}

@@ -1,4 +1,5 @@
 -- the definitions of the crate, a module a subject
+pub mod Texts
 pub mod Roles
 pub mod Sets
 pub mod Table

@@ -4,12 +4,14 @@ ghost use Rattle.std.specs.Prelude.{◌≡◌, ◌++◌, [], List, ℕ, IfOk, On
 ghost use Rattle.adj_tree.specs.Code.{Var, shadow};
 ghost use Rattle.def_names.specs.Reserved.{reserved};
 ghost use Rattle.def_meaning.specs.Apart.{AreApart};
-ghost use Rattle.def_sweep.specs.Naming.{named, unit_names};
+ghost use Rattle.def_sweep.specs.Naming.{named_for, unit_names_for};
 ghost use Rattle.adj_naming.specs.Roles.{variable_of};
+ghost use Rattle.adj_naming.specs.Texts.{derived_of};
 ghost use Rattle.adj_sets.specs.Sets.{all_added};
 ghost use Rattle.adj_naming.specs.Sets.{AreDifferent};
 ghost use Rattle.adj_naming.specs.Table.{paired, table_of};
 
+use crate::derived::Derived;
 use crate::helper_set::helper_set;
 use crate::joining::joined;
 use crate::names::Names;
@@ -40,12 +42,17 @@ pub fn not_free(alloc: Global, units: &[Name]) -> Result<NameSet, Memory>
 }
 
 // The name of the shadow of each variable, which is taken from then on.
-fn shadow_names(alloc: Global, shadowed: &[Name], taken: &mut Taken) -> Result<Vec<Name>, Memory>
-    ensures shadows { IfOk result (λ v. (rest : List Var) → paired (map shadow shadowed.now) v.items ++ named taken.new rest ≡ named taken.old (map shadow shadowed.now ++ rest)) }
+fn shadow_names(
+    alloc: Global,
+    derived: Derived,
+    shadowed: &[Name],
+    taken: &mut Taken,
+) -> Result<Vec<Name>, Memory>
+    ensures shadows { IfOk result (λ v. (rest : List Var) → paired (map shadow shadowed.now) v.items ++ named_for (derived_of derived) taken.new rest ≡ named_for (derived_of derived) taken.old (map shadow shadowed.now ++ rest)) }
 {
     let mut made = Vec::new(alloc);
     for x in shadowed {
-        let base = joined(alloc, x.bytes(), b"B")?;
+        let base = joined(alloc, x.bytes(), derived.mark())?;
         let name = taken.give(alloc, base.bytes())?;
         made.push(name)?;
     }
@@ -53,12 +60,17 @@ fn shadow_names(alloc: Global, shadowed: &[Name], taken: &mut Taken) -> Result<V
 }
 
 // The name of each helper, which is taken from then on.
-fn helper_names(alloc: Global, helpers: &[Helper], taken: &mut Taken) -> Result<Vec<Name>, Memory>
-    ensures helpers { IfOk result (λ v. (rest : List Var) → paired (map variable_of helpers.now) v.items ++ named taken.new rest ≡ named taken.old (map variable_of helpers.now ++ rest)) }
+fn helper_names(
+    alloc: Global,
+    derived: Derived,
+    helpers: &[Helper],
+    taken: &mut Taken,
+) -> Result<Vec<Name>, Memory>
+    ensures helpers { IfOk result (λ v. (rest : List Var) → paired (map variable_of helpers.now) v.items ++ named_for (derived_of derived) taken.new rest ≡ named_for (derived_of derived) taken.old (map variable_of helpers.now ++ rest)) }
 {
     let mut made = Vec::new(alloc);
     for helper in helpers {
-        let base = helper.wanted(alloc)?;
+        let base = helper.wanted(alloc, derived)?;
         let name = taken.give(alloc, base.bytes())?;
         made.push(name)?;
     }
@@ -80,6 +92,7 @@ fn copied(alloc: Global, names: &[Name]) -> Result<Vec<Name>, Memory>
 /// and reserved names leave free is told by `taken`, the set that `not_free` makes once for all units.
 pub fn names(
     alloc: Global,
+    derived: Derived,
     taken: &NameSet,
     variables: &[Name],
     shadowed: &[Name],
@@ -87,14 +100,14 @@ pub fn names(
 ) -> Result<Names, Memory>
     requires shadowed { AreApart shadowed.now }
     requires helpers { AreDifferent (map variable_of helpers.now) }
-    ensures names { IfOk result (λ n. (units : List (List ℕ)) → taken.now ≡ all_added [] (units ++ reserved) → table_of n ≡ unit_names variables.now units (map shadow shadowed.now ++ map variable_of helpers.now)) }
+    ensures names { IfOk result (λ n. (units : List (List ℕ)) → taken.now ≡ all_added [] (units ++ reserved) → table_of n ≡ unit_names_for (derived_of derived) variables.now units (map shadow shadowed.now ++ map variable_of helpers.now)) }
 {
     let mut all = Taken::new(alloc, taken, variables)?;
     let own = copied(alloc, variables)?;
     let mut places = NameSet::new(alloc)?;
     add_names(alloc, &mut places, shadowed)?;
-    let shadows = shadow_names(alloc, shadowed, &mut all)?;
-    let given = helper_names(alloc, helpers, &mut all)?;
+    let shadows = shadow_names(alloc, derived, shadowed, &mut all)?;
+    let given = helper_names(alloc, derived, helpers, &mut all)?;
     Ok(Names {
         variables: Items::new(own),
         shadowed: places,

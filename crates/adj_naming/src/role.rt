@@ -2,10 +2,12 @@
 
 ghost use Rattle.std.specs.Prelude.{◌≡◌, ◌++◌, IfOk, OnOk, map};
 ghost use Rattle.adj_tree.specs.Code.{role_code};
-ghost use Rattle.def_sweep.specs.Naming.{letters, wanted, outside};
+ghost use Rattle.def_sweep.specs.Naming.{letters_for, wanted_for, outside};
 ghost use Rattle.def_sweep.specs.Declared.{helpers_from};
 ghost use Rattle.adj_naming.specs.Roles.{role_of, variable_of};
+ghost use Rattle.adj_naming.specs.Texts.{derived_of};
 
+use crate::derived::Derived;
 use crate::joining::with_number;
 use adj_tree::{Memory, Name};
 use std::alloc::Global;
@@ -13,7 +15,7 @@ use std::alloc::Global;
 /// What such a variable is for. The names that those of a role get where they are free begin with the same letters.
 #[derive(Clone, Copy, PartialEq, Eq, Hash, Debug)]
 pub enum Role {
-    /// The adjoint of an assignment or of a part of its right side: `ADW1`, `ADW2`, ..
+    /// The adjoint of an assignment or of a part of its right side: `ADW1`, `ADW2`, .. In a tangent unit the tangent of such a part: `ADY1`, `ADY2`, ..
     Work,
     /// An operand whose value is used: `ADZ1`, `ADZ2`, ..
     Temp,
@@ -71,11 +73,11 @@ impl Role {
     }
 
     // How the names of the role begin.
-    fn letters(self) -> &'static [u8]
-        ensures letters { result.now ≡ letters (role_of self) }
+    fn letters(self, derived: Derived) -> &'static [u8]
+        ensures letters { result.now ≡ letters_for (derived_of derived) (role_of self) }
     {
         match self {
-            Role::Work => b"ADW",
+            Role::Work => derived.work_letters(),
             Role::Temp => b"ADZ",
             Role::Control => b"ADC",
             Role::First => b"ADM",
@@ -94,10 +96,10 @@ impl Role {
 
 impl Helper {
     /// The name that it gets where that is free.
-    pub fn wanted(&self, alloc: Global) -> Result<Name, Memory>
-        ensures name { IfOk result (λ y. y ≡ wanted (variable_of self.now)) }
+    pub fn wanted(&self, alloc: Global, derived: Derived) -> Result<Name, Memory>
+        ensures name { IfOk result (λ y. y ≡ wanted_for (derived_of derived) (variable_of self.now)) }
     {
-        let front = self.role.letters();
+        let front = self.role.letters(derived);
         match self.role {
             Role::Control => { Name::from_slice(alloc, front) }
             _ => { with_number(alloc, front, self.number) }

@@ -7,7 +7,6 @@ pub mod Before
 pub mod Kept
 pub mod Written
 pub mod Counting
-pub mod Made
 pub mod Actuals
 pub mod Flagged
 pub mod Known

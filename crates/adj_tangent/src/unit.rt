@@ -6,9 +6,10 @@ ghost use Rattle.def_tangent.specs.Program.{tangent_unit};
 ghost use Rattle.adj_tangent.specs.Woven.{sources, carried_for, IsShared, IsPart};
 
 use crate::carried::Carried;
-use crate::naming::names;
 use crate::plan::{Callees, Plan};
 use crate::uses::helpers_used;
+use adj_naming::derived::Derived;
+use adj_naming::naming::names;
 use adj_sets::NameSet;
 use adj_sweep_assignment::Marking;
 use adj_symbols::Checked;
@@ -54,7 +55,14 @@ pub fn tangent_unit(
     let used = helpers_used(alloc, marking, &unit.body)?;
     let helpers = used.as_slice();
     let own = shadowed(alloc, marking, part.variables)?;
-    let all = names(alloc, shared.taken, part.variables, own.as_slice(), helpers)?;
+    let all = names(
+        alloc,
+        Derived::Tangent,
+        shared.taken,
+        part.variables,
+        own.as_slice(),
+        helpers,
+    )?;
     let arrays = arrays_of(alloc, unit)?;
     let plan = Plan {
         names: &all,

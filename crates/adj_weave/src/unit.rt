@@ -7,6 +7,7 @@ ghost use Rattle.adj_weave.specs.Shared.{sources, marks_for, reversed_for, IsSha
 
 use crate::making::Making;
 use crate::marks::Marked;
+use adj_naming::derived::Derived;
 use adj_naming::naming::names;
 use adj_sets::NameSet;
 use adj_sweep::callees::Callees;
@@ -71,7 +72,14 @@ pub fn made_unit(
     let helpers = used.as_slice();
     let shadows = part.shadows(making);
     let own = shadowed(alloc, &shadows, variables)?;
-    let all = names(alloc, shared.taken, variables, own.as_slice(), helpers)?;
+    let all = names(
+        alloc,
+        Derived::Adjoint,
+        shared.taken,
+        variables,
+        own.as_slice(),
+        helpers,
+    )?;
     let arrays = arrays_of(alloc, unit)?;
     let plan = Plan {
         names: &all,

@@ -1,5 +1,6 @@
 //! Names that are given, against those that the rules of docs/EMITTED.md say.
 
+use adj_naming::derived::Derived;
 use adj_naming::naming::{names, not_free};
 use adj_naming::role::{Helper, Role};
 use adj_naming::taken::Taken;
@@ -35,14 +36,14 @@ fn is_third(alloc: Global, variable: &[u8], wanted: &[u8]) -> Result<bool, Memor
     }];
     let variables = [Name::from_slice(alloc, variable)?];
     let taken = not_free(alloc, &[])?;
-    let names = names(alloc, &taken, &variables, &[], &helpers)?;
+    let names = names(alloc, Derived::Adjoint, &taken, &variables, &[], &helpers)?;
     Ok(names.helper(alloc, Role::Count, 3)?.bytes() == wanted)
 }
 
 // Whether the second counter of a unit that has none has this name.
 fn is_of_none(alloc: Global, wanted: &[u8]) -> Result<bool, Memory> {
     let taken = not_free(alloc, &[])?;
-    let names = names(alloc, &taken, &[], &[], &[])?;
+    let names = names(alloc, Derived::Adjoint, &taken, &[], &[], &[])?;
     Ok(names.helper(alloc, Role::Count, 2)?.bytes() == wanted)
 }
 

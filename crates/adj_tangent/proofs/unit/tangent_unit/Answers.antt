@@ -22,8 +22,8 @@ use Rattle.adj_tangent.specs.Woven.{sources, carried_for}
 use Rattle.adj_tangent.proofs.Units.{ns, body, helpers_different, text_kept, unit_is}
 use Rattle.adj_tangent.proofs.unit.tangent_unit.Goals as goal
 
-pub names-requires-clause-carried : goal.names-requires-clause-carried
-names-requires-clause-carried c =
+pub names-requires-clause-shadowed : goal.names-requires-clause-shadowed
+names-requires-clause-shadowed c =
     let u = procedure_of c.args.part.now.unit.now in
     let a = (marks_of c.args.part.now.marking).shadowed in
     let own = c.as_slice.ensures.value ∙ c.in_ok-own.ensures.names ∙ ap (names_in a) c.requires.part.variables in
