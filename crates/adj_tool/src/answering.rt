@@ -55,8 +55,7 @@ fn kernel_alone(alloc: Global, program: Checked) -> Result<Checked, Memory>
     requires accepted { IsAccepted (procedures_of program.program) }
     ensures kernel { IfOk result (λ c. procedures_of c.program ≡ kernel_of (procedures_of program.program)) }
 {
-    let kernel = checked_kernel(alloc, program.program())?;
-    Ok(kernel)
+    checked_kernel(alloc, program.program())
 }
 
 // The text that is wanted of a program, for the unit of a name as its head, or the refusal of its kernel.

@@ -163,8 +163,7 @@ fn tangent_for(alloc: Global, kernel: &Checked, head: &Head) -> Result<Program, 
     ensures emitted { IfOk result (λ p. IsTangentEmitted (procedures_of kernel.now.program) head.now (procedures_of p)) }
 {
     let found = carrying(alloc, kernel, head)?;
-    let program = tangent_by(alloc, kernel, head, &found)?;
-    Ok(program)
+    tangent_by(alloc, kernel, head, &found)
 }
 
 // The text of the tangent of a kernel. The kernel is gone when the text is laid out.

@@ -61,30 +61,12 @@ fn answer_arguments<S: Source>(
         return Ok(answer);
     };
     match task {
-        Task::Adjoint(request) => {
-            let answer = answer_input(alloc, Wanted::Adjoint, &request, input)?;
-            Ok(answer)
-        }
-        Task::Tangent(request) => {
-            let answer = answer_input(alloc, Wanted::Tangent, &request, input)?;
-            Ok(answer)
-        }
-        Task::Plan(request) => {
-            let answer = answer_input(alloc, Wanted::Plan, &request, input)?;
-            Ok(answer)
-        }
-        Task::Run(request) => {
-            let answer = run_input(alloc, &request, input)?;
-            Ok(answer)
-        }
-        Task::Check(request) => {
-            let answer = check_input(alloc, &request, input)?;
-            Ok(answer)
-        }
-        Task::Jacobian(request) => {
-            let answer = jacobian_input(alloc, &request, input)?;
-            Ok(answer)
-        }
+        Task::Adjoint(request) => { answer_input(alloc, Wanted::Adjoint, &request, input) }
+        Task::Tangent(request) => { answer_input(alloc, Wanted::Tangent, &request, input) }
+        Task::Plan(request) => { answer_input(alloc, Wanted::Plan, &request, input) }
+        Task::Run(request) => { run_input(alloc, &request, input) }
+        Task::Check(request) => { check_input(alloc, &request, input) }
+        Task::Jacobian(request) => { jacobian_input(alloc, &request, input) }
         Task::Schedule(reversal) => {
             let answer = schedule(alloc, &reversal)?;
             Ok(answer)
