@@ -7,18 +7,17 @@ ghost use Rattle.def_text.specs.Text.{rel_text, test_level, enclosed, test_text}
 use crate::expression::push_expr;
 use adj_tree::{Cond, Memory, Rel};
 
-fn push_rel(out: &mut Vec<u8>, rel: Rel) -> Result<(), Memory>
-    ensures characters { OnOk result (out.new.items ≡ out.old.items ++ rel_text (rel_of rel)) }
+fn rel_text(rel: Rel) -> &'static [u8]
+    ensures text { result.now ≡ rel_text (rel_of rel) }
 {
     match rel {
-        Rel::Lt => out.extend_from_slice(b".LT.")?,
-        Rel::Le => out.extend_from_slice(b".LE.")?,
-        Rel::Eq => out.extend_from_slice(b".EQ.")?,
-        Rel::Ne => out.extend_from_slice(b".NE.")?,
-        Rel::Gt => out.extend_from_slice(b".GT.")?,
-        Rel::Ge => out.extend_from_slice(b".GE.")?,
+        Rel::Lt => b".LT.",
+        Rel::Le => b".LE.",
+        Rel::Eq => b".EQ.",
+        Rel::Ne => b".NE.",
+        Rel::Gt => b".GT.",
+        Rel::Ge => b".GE.",
     }
-    Ok(())
 }
 
 fn test_level(cond: &Cond) -> u8
@@ -40,7 +39,7 @@ pub fn push_cond(out: &mut Vec<u8>, cond: &Cond) -> Result<(), Memory>
     match cond {
         Cond::Cmp(rel, left, right) => {
             push_expr(out, left)?;
-            push_rel(out, *rel)?;
+            out.extend_from_slice(rel_text(*rel))?;
             push_expr(out, right)
         }
         Cond::Not(inner) => {

@@ -49,26 +49,24 @@ fn between(op: Op) -> u8
     }
 }
 
-fn push_opening(out: &mut Vec<u8>, op: Op) -> Result<(), Memory>
-    ensures characters { OnOk result (out.new.items ≡ out.old.items ++ opening (op_of op)) }
+fn opening(op: Op) -> &'static [u8]
+    ensures text { result.now ≡ opening (op_of op) }
 {
     match op {
-        Op::Mod => out.extend_from_slice(b"MOD(")?,
-        Op::Max => out.extend_from_slice(b"MAX(")?,
-        Op::Min => out.extend_from_slice(b"MIN(")?,
-        Op::Add | Op::Sub | Op::Mul | Op::Quot => {}
+        Op::Mod => b"MOD(",
+        Op::Max => b"MAX(",
+        Op::Min => b"MIN(",
+        Op::Add | Op::Sub | Op::Mul | Op::Quot => b"",
     }
-    Ok(())
 }
 
-fn push_closing(out: &mut Vec<u8>, op: Op) -> Result<(), Memory>
-    ensures characters { OnOk result (out.new.items ≡ out.old.items ++ closing (op_of op)) }
+fn closing(op: Op) -> &'static [u8]
+    ensures text { result.now ≡ closing (op_of op) }
 {
     match op {
-        Op::Mod | Op::Max | Op::Min => out.push(b')')?,
-        Op::Add | Op::Sub | Op::Mul | Op::Quot => {}
+        Op::Mod | Op::Max | Op::Min => b")",
+        Op::Add | Op::Sub | Op::Mul | Op::Quot => b"",
     }
-    Ok(())
 }
 
 fn term_level(expr: &Expr) -> u8
@@ -99,11 +97,12 @@ pub fn push_expr(out: &mut Vec<u8>, expr: &Expr) -> Result<(), Memory>
             push_operand(out, inner, 1)
         }
         Expr::Bin(op, left, right) => {
-            push_opening(out, *op)?;
+            out.extend_from_slice(opening(*op))?;
             push_operand(out, left, left_place(*op))?;
             out.push(between(*op))?;
             push_operand(out, right, right_place(*op))?;
-            push_closing(out, *op)
+            out.extend_from_slice(closing(*op))?;
+            Ok(())
         }
         Expr::Pow(base, exponent) => {
             push_operand(out, base, 3)?;

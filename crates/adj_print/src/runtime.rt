@@ -9,23 +9,29 @@ use crate::expression::{push_expr, push_place};
 use crate::list::push_name;
 use adj_tree::{Expr, Memory, Name, Place, RunCall};
 
+fn runtime_name(call: &RunCall) -> &'static [u8]
+    ensures name { result.now ≡ runtime_name (runtime_of call.now) }
+{
+    match call {
+        RunCall::PushWord(_) => b"PUSHINTEGER8",
+        RunCall::PopWord(_) => b"POPINTEGER8",
+        RunCall::PushArray(_) => b"PUSHINTEGER8ARRAY",
+        RunCall::PopArray(_) => b"POPINTEGER8ARRAY",
+        RunCall::PushControl(_) => b"PUSHCONTROL1B",
+        RunCall::PopControl(_) => b"POPCONTROL1B",
+        RunCall::Zero(_) => b"ADZERO8",
+        RunCall::Begin(_, _) => b"ADBEG",
+        RunCall::Actions(_, _, _) => b"ADACTN",
+        RunCall::Action(_, _, _, _, _, _) => b"ADACT",
+        RunCall::End => b"ADEND",
+    }
+}
+
 /// Adds the name of a call of the runtime.
 pub fn push_runtime_name(out: &mut Vec<u8>, call: &RunCall) -> Result<(), Memory>
     ensures characters { OnOk result (out.new.items ≡ out.old.items ++ runtime_name (runtime_of call.now)) }
 {
-    match call {
-        RunCall::PushWord(_) => out.extend_from_slice(b"PUSHINTEGER8")?,
-        RunCall::PopWord(_) => out.extend_from_slice(b"POPINTEGER8")?,
-        RunCall::PushArray(_) => out.extend_from_slice(b"PUSHINTEGER8ARRAY")?,
-        RunCall::PopArray(_) => out.extend_from_slice(b"POPINTEGER8ARRAY")?,
-        RunCall::PushControl(_) => out.extend_from_slice(b"PUSHCONTROL1B")?,
-        RunCall::PopControl(_) => out.extend_from_slice(b"POPCONTROL1B")?,
-        RunCall::Zero(_) => out.extend_from_slice(b"ADZERO8")?,
-        RunCall::Begin(_, _) => out.extend_from_slice(b"ADBEG")?,
-        RunCall::Actions(_, _, _) => out.extend_from_slice(b"ADACTN")?,
-        RunCall::Action(_, _, _, _, _, _) => out.extend_from_slice(b"ADACT")?,
-        RunCall::End => out.extend_from_slice(b"ADEND")?,
-    }
+    out.extend_from_slice(runtime_name(call))?;
     Ok(())
 }
 
