@@ -1,6 +1,6 @@
 //! What a call does before the unit that is called runs, and after. (docs/RUNNING.md, "Calls")
 
-ghost use Rattle.std.specs.Prelude.{◌≡◌, ◌==◌, ◌∷◌, List, ℕ, suc, Option, IfOk, IfErr, OnOk, OnErr, length, true, false};
+ghost use Rattle.std.specs.Prelude.{◌≡◌, ◌≤◌, ◌==◌, ◌∷◌, ◌++◌, [], take, List, ℕ, suc, Option, IfOk, IfErr, OnOk, OnErr, length, true, false};
 ghost use Rattle.adj_tree.specs.Code.{Var};
 ghost use Rattle.def_meaning.specs.Event.{Enter};
 ghost use Rattle.def_meaning.specs.Scene.{Scene};
@@ -13,7 +13,7 @@ ghost use Rattle.adj_interp_frame.specs.Framed.{IsFrame};
 ghost use Rattle.adj_interp_frame.specs.Shown.{on_numbers, Shows};
 ghost use Rattle.adj_interp_frame.specs.Suited.{counts_in, AreAsLarge};
 ghost use Rattle.adj_interp_frame.specs.Called.{actual_in, actuals_in, IsActualBelow, AreActualsBelow, IsLaidOut, entered_with, shapes_with, fit_from};
-ghost use Rattle.adj_interp_frame.specs.Lent.{AreLent, AreFilled, HaveLent, IsFrameFrom, ShowsHeld, AreRead, sizes_in, AreActualsWithin};
+ghost use Rattle.adj_interp_frame.specs.Lent.{AreLent, AreFilled, HaveCells, HaveLent, IsFrameFrom, ShowsHeld, AreRead, sizes_in, AreActualsWithin};
 ghost use Rattle.adj_interp.specs.declared.stop.Stop.TheVariants as stop;
 ghost use Rattle.adj_interp.specs.Held.{Entry, Holds};
 ghost use Rattle.adj_interp.specs.Entered.{Gets, IsMisfit, inside};
@@ -23,7 +23,7 @@ use crate::machine::Machine;
 use crate::stop::Stop;
 use adj_interp_frame::{Actual, Frame, Routine, Slot, Term, Terms, Unfit};
 use adj_number::Number;
-use adj_tree::Trap;
+use adj_tree::{Memory, Trap};
 use std::mem;
 
 /// What a caller has in hand while a unit runs that it called.
@@ -35,8 +35,37 @@ pub(crate) struct Outer<'a, N: Number> {
     pub cursor: Option<Box<Cursor>>,
 }
 
+// Puts an actual behind the first ones of a list, in place of what stands there; gives how many there are then.
+fn put_next<N: Number>(
+    list: &mut Vec<Actual<N>>,
+    count: usize,
+    actual: Actual<N>,
+) -> Result<usize, Memory>
+    requires within { count ≤ length list.old.items }
+    ensures within { IfOk result (λ n. n ≤ length list.new.items) }
+    ensures items { IfOk result (λ n. take n list.new.items ≡ take count list.old.items ++ (actual ∷ [])) }
+{
+    if count < list.len() {
+        list[count] = actual;
+        return Ok(count + 1);
+    }
+    list.push(actual)?;
+    Ok(list.len())
+}
+
+// The first ones of a list. Most lists have no others.
+fn first_ones<N: Number>(mut list: Vec<Actual<N>>, count: usize) -> Vec<Actual<N>>
+    ensures { result.items ≡ take count list.items }
+{
+    if list.len() <= count {
+        return list;
+    }
+    list.truncate(count);
+    list
+}
+
 impl<'a, N: Number> Machine<'a, N> {
-    /// The actuals of a call, from left to right.
+    /// The actuals of a call, from left to right. They take the places of those of the call before, so that most calls ask for no room and clear none.
     pub(crate) fn actuals(&self, terms: &Terms, line: u32) -> Result<Vec<Actual<N>>, Stop>
         requires framed { IsFrame self.now.frame.names.now self.now.frame.slots.items }
         requires below { AreTermsBelow (length self.now.frame.names.now) terms.now }
@@ -44,16 +73,15 @@ impl<'a, N: Number> Machine<'a, N> {
             → Gets (λ v. actuals_in self.now.frame.names.now shape s v.items) line (actuals (on_numbers N.numbers shape room level) (terms_in self.now.frame.names.now terms.now) s) result }
         ensures below { IfOk result (λ v. AreActualsBelow self.now.frame.slots.items v.items) }
     {
-        let mut found = self.spare_actuals.take_empty(self.alloc);
+        let mut list = self.spare_actuals.take(self.alloc);
+        let mut count = 0;
         let mut current = terms;
         while let Terms::More(first, rest) = current {
             let actual = self.actual(first, line)?;
-            if found.push(actual).is_err() {
-                return Err(Stop::Memory);
-            }
+            count = put_next(&mut list, count, actual)?;
             current = rest;
         }
-        Ok(found)
+        Ok(first_ones(list, count))
     }
 
     // An actual.
@@ -78,10 +106,12 @@ impl<'a, N: Number> Machine<'a, N> {
         }
     }
 
-    // Keeps the slots of a call of the unit of a number, and lets the cells of its arrays go.
-    fn keep_slots(&self, number: usize, mut slots: Vec<Slot<N>>) {
-        for i in 0..slots.len() {
-            slots[i].release(self.alloc);
+    // Keeps the slots of a call of the unit of a number, and lets the cells of its arrays go, unless it is known that there are none.
+    fn keep_slots(&self, number: usize, mut slots: Vec<Slot<N>>, is_full: bool) {
+        if !is_full {
+            for i in 0..slots.len() {
+                slots[i].release(self.alloc);
+            }
         }
         if let Some(spare) = self.spare_slots.get(number) {
             spare.keep(slots);
@@ -89,44 +119,51 @@ impl<'a, N: Number> Machine<'a, N> {
     }
 
     /// The entry of a unit that gets actuals, in a list that is given for its room. A slot to which cells are lent has none yet.
+    /// Where all slots are scalars that kept their cells the result says true: then none is without cells.
     pub(crate) fn entry(
         &self,
         routine: &'a Routine<'a>,
         actuals: &[Actual<N>],
         room: Vec<Slot<N>>,
         line: u32,
-    ) -> Result<Frame<'a, N>, Stop>
+    ) -> Result<(Frame<'a, N>, bool), Stop>
         requires framed { IsFrame self.now.frame.names.now self.now.frame.slots.items }
         requires below { AreActualsBelow self.now.frame.slots.items actuals.now }
         requires laid { IsLaidOut routine.now }
-        ensures names { IfOk result (λ f. f.names.now ≡ routine.now.names) }
-        ensures lent { IfOk result (λ f. AreLent routine.now actuals.now f.slots.items) }
-        ensures framed { IfOk result (λ f. (us : List (Slot N)) → AreFilled self.now.frame.slots.items actuals.now f.slots.items us → IsFrame routine.now.names us) }
-        ensures fits { IfOk result (λ f. (shape : Var → Shape) (s : Store N) → Shows N.numbers self.now.frame.names.now self.now.frame.slots.items shape s
+        ensures names { IfOk result (λ v. v.0.names.now ≡ routine.now.names) }
+        ensures full { IfOk result (λ v. v.1 ≡ true → HaveCells v.0.slots.items) }
+        ensures lent { IfOk result (λ v. AreLent routine.now actuals.now v.0.slots.items) }
+        ensures framed { IfOk result (λ v. (us : List (Slot N)) → AreFilled self.now.frame.slots.items actuals.now v.0.slots.items us → IsFrame routine.now.names us) }
+        ensures fits { IfOk result (λ v. (shape : Var → Shape) (s : Store N) → Shows N.numbers self.now.frame.names.now self.now.frame.slots.items shape s
             → fit_from N.numbers routine.now (actuals_in self.now.frame.names.now shape s actuals.now) 0 ≡ true) }
-        ensures shown { IfOk result (λ f. (us : List (Slot N)) → AreFilled self.now.frame.slots.items actuals.now f.slots.items us → (shape : Var → Shape) (s : Store N) → Shows N.numbers self.now.frame.names.now self.now.frame.slots.items shape s
+        ensures shown { IfOk result (λ v. (us : List (Slot N)) → AreFilled self.now.frame.slots.items actuals.now v.0.slots.items us → (shape : Var → Shape) (s : Store N) → Shows N.numbers self.now.frame.names.now self.now.frame.slots.items shape s
             → Shows N.numbers routine.now.names us (shapes_with N.numbers routine.now (actuals_in self.now.frame.names.now shape s actuals.now)) (entered_with N.numbers routine.now (actuals_in self.now.frame.names.now shape s actuals.now))) }
         ensures misfit { IfErr result (λ x. IsMisfit x line ((shape : Var → Shape) (s : Store N) → Shows N.numbers self.now.frame.names.now self.now.frame.slots.items shape s
             → fit_from N.numbers routine.now (actuals_in self.now.frame.names.now shape s actuals.now) 0 ≡ false)) }
     {
         match self.frame.entry(self.alloc, routine, actuals, room) {
-            Ok(slots) => Ok(Frame {
-                names: &routine.names,
-                slots,
-            }),
+            Ok((slots, is_full)) => Ok((
+                Frame {
+                    names: &routine.names,
+                    slots,
+                },
+                is_full,
+            )),
             Err(Unfit::Shape) => Err(Stop::Trap(Trap::Shape, line)),
             Err(Unfit::Memory) => Err(Stop::Memory),
         }
     }
 
-    /// Goes into a unit that is called, and lends it the cells that its entry is to have; gives what the caller has in hand.
+    /// Goes into a unit that is called, and lends it the cells that its entry is to have, unless it is known to have all; gives what the caller has in hand.
     pub(crate) fn enter(
         &mut self,
         mut frame: Frame<'a, N>,
         actuals: &[Actual<N>],
+        is_full: bool,
     ) -> Result<Outer<'a, N>, Stop>
         requires framed { IsFrame self.old.frame.names.now self.old.frame.slots.items }
         requires below { AreActualsBelow self.old.frame.slots.items actuals.now }
+        requires full { is_full ≡ true → HaveCells frame.slots.items }
         ensures memory { IfErr result (λ x. x ≡ stop.Memory) }
         ensures kept { OnErr result (self.new.frame ≡ self.old.frame) }
         ensures names { OnOk result (self.new.frame.names.now ≡ frame.entry.names.now) }
@@ -145,7 +182,8 @@ impl<'a, N: Number> Machine<'a, N> {
         let height = self.tape.len();
         self.tally.enter(level, height)?;
         let open = self.tally.open();
-        self.frame.lend(actuals, frame.slots.as_mut_slice());
+        self.frame
+            .fill(actuals, frame.slots.as_mut_slice(), is_full);
         Ok(Outer {
             frame: mem::replace(&mut self.frame, frame),
             base: mem::replace(&mut self.base, open),
@@ -174,6 +212,7 @@ impl<'a, N: Number> Machine<'a, N> {
         actuals: &[Actual<N>],
         number: usize,
         mut inner: Frame<'a, N>,
+        is_full: bool,
     )
         requires framed { IsFrameFrom routine.now actuals.now 0 self.old.frame.names.now self.old.frame.slots.items }
         requires below { AreActualsWithin self.old.frame.slots.items actuals.now }
@@ -191,6 +230,6 @@ impl<'a, N: Number> Machine<'a, N> {
     {
         self.frame
             .hand_back(routine, actuals, inner.slots.as_mut_slice());
-        self.keep_slots(number, inner.into_slots());
+        self.keep_slots(number, inner.into_slots(), is_full);
     }
 }

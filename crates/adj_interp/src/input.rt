@@ -59,7 +59,7 @@ pub(crate) fn first_entry<'a, N: Number>(
     let actuals = wholes(alloc, caller.slots.len())?;
     let given = actuals.as_slice();
     match caller.entry(alloc, routine, given, Vec::new(alloc)) {
-        Ok(mut slots) => {
+        Ok((mut slots, _)) => {
             caller.lend(given, slots.as_mut_slice());
             Ok(Frame {
                 names: &routine.names,

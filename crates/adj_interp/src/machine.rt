@@ -270,11 +270,12 @@ impl<'a, N: Number> Machine<'a, N> {
         let routine = &program[number];
         let actuals = self.actuals(terms, line)?;
         let given = actuals.as_slice();
-        let frame = self.entry(routine, given, self.kept_slots(number), line)?;
-        let outer = self.enter(frame, given)?;
+        let entered = self.entry(routine, given, self.kept_slots(number), line)?;
+        let (frame, is_full) = entered;
+        let outer = self.enter(frame, given, is_full)?;
         let ended = self.run(program, depth - 1, &routine.body);
         let (inner, is_closed) = self.leave(outer);
-        self.hand_back(routine, given, number, inner);
+        self.hand_back(routine, given, number, inner, is_full);
         self.spare_actuals.keep(actuals);
         ended?;
         if !is_closed {

@@ -1,7 +1,5 @@
 //! Lists that a call leaves for later ones.
 
-ghost use Rattle.std.specs.Prelude.{◌≡◌, []};
-
 use adj_tree::Memory;
 use std::alloc::Global;
 use std::cell::Cell;
@@ -28,15 +26,6 @@ impl<T: Drop> Spare<T> {
     /// The list that was kept, or an empty one.
     pub(crate) fn take(&self, alloc: Global) -> Vec<T> {
         self.list.replace(Vec::new(alloc))
-    }
-
-    /// An empty list, with the room of the one that was kept.
-    pub(crate) fn take_empty(&self, alloc: Global) -> Vec<T>
-        ensures { result.items ≡ [] }
-    {
-        let mut list = self.take(alloc);
-        list.clear();
-        list
     }
 
     /// Keeps a list in place of what was kept before.

@@ -90,6 +90,17 @@ impl Tally {
     pub fn enter(&mut self, level: u64, height: u64) -> Result<(), Memory>
         ensures { OnOk result ((name : List ℕ) (shapes : List Shape) → self.new ≡ with_event self.old (Enter name level height shapes)) }
     {
+        if self.begun.is_empty() {
+            return Ok(());
+        }
+        self.enter_within(level, height)
+    }
+
+    // A unit is entered while a reversal is open, so that most calls need no more than a look at whether one is.
+    #[inline(never)]
+    fn enter_within(&mut self, level: u64, height: u64) -> Result<(), Memory>
+        ensures { OnOk result ((name : List ℕ) (shapes : List Shape) → self.new ≡ with_event self.old (Enter name level height shapes)) }
+    {
         let Some(last) = self.begun.pop() else {
             return Ok(());
         };

@@ -21,7 +21,7 @@ use Rattle.adj_interp_frame.specs.Framed.{in_slot, slot_shape, IsSlot, IsFrame, 
 use Rattle.adj_interp_frame.specs.Shown.{Shows}
 use Rattle.adj_interp_frame.specs.Called.{actuals_in, place_of, IsActualBelow, AreActualsBelow, given_at, IsLaidOut, shapes_with, IsEntered}
 use Rattle.adj_interp_frame.specs.Suited.{counts_in}
-use Rattle.adj_interp_frame.specs.Lent.{IsPlaceIn, IsFirst, IsLent, HasLender, IsFilled, IsToCome, HaveLent, IsFrameFrom, ShowsHeld, sizes_in, IsActualWithin, AreActualsWithin}
+use Rattle.adj_interp_frame.specs.Lent.{IsPlaceIn, IsFirst, IsLent, HasLender, IsFilled, AreFilled, HaveCells, IsToCome, HaveLent, IsFrameFrom, ShowsHeld, sizes_in, IsActualWithin, AreActualsWithin}
 use Rattle.adj_interp_frame.proofs.Reading.{has_first, at_number}
 use Rattle.adj_interp_frame.proofs.Setting.{said_before, said_now, cell_now}
 use Rattle.adj_interp_frame.proofs.Giving.{shown_cell}
@@ -106,10 +106,26 @@ module _ {C : Type 0} where
         subst (λ (z : Slot C). IsFilled vs all i z (get_or (set ws i u) i e)) (is ∙ get_or_default ws i w d lt)
         (subst (λ (z : Slot C). IsFilled vs all i w z) (sym (get_or-set_at ws i i u e refl lt)) (filled_lent vs all i k w u c none at there shape cells))
 
+  -- a list of slots that all have cells is filled by itself
+  pub filled_alone : (vs : List (Slot C)) (all : List (CodeActual C)) (ws : List (Slot C)) → HaveCells ws → AreFilled vs all ws ws
+  filled_alone vs all ws h = record {
+    count = refl;
+    each = λ i d e lt. subst (λ (z : Slot C). IsFilled vs all i (get_or ws i d) z) (get_or_default ws i d e lt) (filled_same vs all i (get_or ws i d) (λ k none at. h i d lt none));
+  }
+
   -- ---- slots that have their cells
 
   pub not_empty : (v : Slot C) → IsSlot v → v.cells.items ≡ [] → ⊥
   not_empty v h e = let p = has_first v h in let n = ap length e in absurd (omega (arith, p, n))
+
+  -- slots that all have their cells have lent nothing
+  pub lent_none : (r : Routine) (all : List (CodeActual C)) (names : List (List ℕ)) (vs : List (Slot C)) → IsFrame names vs → HaveLent r all vs vs
+  lent_none r all names vs f = record {
+    count = refl;
+    shapes = λ k d. refl;
+    kept = λ k d lt n. refl;
+    come = λ k d lt e. absurd (not_empty (get_or vs k d) (f.sized k d lt) e);
+  }
 
   -- the sizes of shapes are the numbers of cells of slots of these shapes
   pub sizes_alike : (us vs : List (Slot C)) → length us ≡ length vs → ((k : ℕ) (d : Slot C) → slot_shape (get_or us k d) ≡ slot_shape (get_or vs k d)) → ((k : ℕ) (d : Slot C) → k < length vs → IsSlot (get_or vs k d)) → sizes_in us ≡ counts_in vs

@@ -49,6 +49,10 @@ pub record AreFilled {C : Type 0} (vs : List (Slot C)) (all : List (CodeActual C
   pub count : length us ≡ length ws
   pub each : (i : ℕ) (d e : Slot C) → i < length ws → IsFilled vs all i (slice_index_or ws i d) (slice_index_or us i e)
 
+-- no slot is without cells
+abbrev pub HaveCells : {C : Type 0} → List (Slot C) → Type 0
+HaveCells {C} vs = (i : ℕ) (d : Slot C) → i < length vs → (slice_index_or vs i d).cells.items ≡ [] → ⊥
+
 -- ---- while it runs
 
 -- from the dummy of a number on, one gets the variable so

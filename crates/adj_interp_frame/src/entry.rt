@@ -11,7 +11,7 @@ ghost use Rattle.adj_interp_frame.specs.Prepared.{var_at};
 ghost use Rattle.adj_interp_frame.specs.Framed.{IsSlot, IsFrame, slot_shape, zero_in};
 ghost use Rattle.adj_interp_frame.specs.Shown.{Shows};
 ghost use Rattle.adj_interp_frame.specs.Called.{actual_in, actuals_in, given_at, IsActualBelow, AreActualsBelow, extent_at, IsBoundBelow, words_in, IsLaidOut, entered_with, shapes_with, IsEntered, is_fit, fit_from};
-ghost use Rattle.adj_interp_frame.specs.Lent.{HasLender, AreLent, IsFilled, AreFilled};
+ghost use Rattle.adj_interp_frame.specs.Lent.{HasLender, AreLent, IsFilled, AreFilled, HaveCells};
 
 use crate::actual::Actual;
 use crate::frame::Frame;
@@ -191,7 +191,8 @@ impl<'a, N: Number> Frame<'a, N> {
         }
     }
 
-    // Makes the slot of a variable as it is at the entry, before it gets the cells that are lent to it. A scalar's slot that has its cell keeps it.
+    // Makes the slot of a variable as it is at the entry, before it gets the cells that are lent to it. A scalar's slot that has its cell keeps it; the
+    // result says whether it did.
     fn renew(
         &self,
         alloc: Global,
@@ -199,11 +200,12 @@ impl<'a, N: Number> Frame<'a, N> {
         actuals: &[Actual<N>],
         i: usize,
         slot: &mut Slot<N>,
-    ) -> Result<(), Unfit>
+    ) -> Result<bool, Unfit>
         requires framed { IsFrame self.now.names.now self.now.slots.items }
         requires below { AreActualsBelow self.now.slots.items actuals.now }
         requires laid { IsLaidOut routine.now }
         requires there { i < length routine.now.names }
+        ensures cells { IfOk result (λ kept. kept ≡ true → slot.new.cells.items ≡ [] → ⊥) }
         ensures lent { OnOk result (slot.new.cells.items ≡ [] → HasLender routine.now actuals.now i) }
         ensures sized { OnOk result ((u : ASlot N) → IsFilled self.now.slots.items actuals.now i slot.new u → IsSlot u) }
         ensures entered { OnOk result ((u : ASlot N) → IsFilled self.now.slots.items actuals.now i slot.new u → (shape : Var → Shape) (s : Store N) → Shows N.numbers self.now.names.now self.now.slots.items shape s
@@ -215,27 +217,29 @@ impl<'a, N: Number> Frame<'a, N> {
     {
         if let (Layout::Scalar, true) = (routine.layouts[i], slot.is_scalar()) {
             slot.hold(self.entry_word(routine, actuals, i));
-            return Ok(());
+            return Ok(true);
         }
         *slot = self.entry_slot(alloc, routine, actuals, i)?;
-        Ok(())
+        Ok(false)
     }
 
     /// The slots at the entry of a unit that gets actuals: each dummy array must fit its actual. A slot to which cells are lent has none yet.
     /// A list is given for its room, as that of the last call of the unit, and loses what it has: its scalars keep their cells, so that they cost no more.
+    /// Where all slots are such scalars the result says true: then none is without cells.
     pub fn entry(
         &self,
         alloc: Global,
         routine: &Routine<'_>,
         actuals: &[Actual<N>],
         mut slots: Vec<Slot<N>>,
-    ) -> Result<Vec<Slot<N>>, Unfit>
+    ) -> Result<(Vec<Slot<N>>, bool), Unfit>
         requires framed { IsFrame self.now.names.now self.now.slots.items }
         requires below { AreActualsBelow self.now.slots.items actuals.now }
         requires laid { IsLaidOut routine.now }
-        ensures lent { IfOk result (λ v. AreLent routine.now actuals.now v.items) }
-        ensures framed { IfOk result (λ v. (us : List (ASlot N)) → AreFilled self.now.slots.items actuals.now v.items us → IsFrame routine.now.names us) }
-        ensures shown { IfOk result (λ v. (us : List (ASlot N)) → AreFilled self.now.slots.items actuals.now v.items us → (shape : Var → Shape) (s : Store N) → Shows N.numbers self.now.names.now self.now.slots.items shape s
+        ensures full { IfOk result (λ v. v.1 ≡ true → HaveCells v.0.items) }
+        ensures lent { IfOk result (λ v. AreLent routine.now actuals.now v.0.items) }
+        ensures framed { IfOk result (λ v. (us : List (ASlot N)) → AreFilled self.now.slots.items actuals.now v.0.items us → IsFrame routine.now.names us) }
+        ensures shown { IfOk result (λ v. (us : List (ASlot N)) → AreFilled self.now.slots.items actuals.now v.0.items us → (shape : Var → Shape) (s : Store N) → Shows N.numbers self.now.names.now self.now.slots.items shape s
             → Shows N.numbers routine.now.names us (shapes_with N.numbers routine.now (actuals_in self.now.names.now shape s actuals.now)) (entered_with N.numbers routine.now (actuals_in self.now.names.now shape s actuals.now))) }
         ensures fits { IfOk result (λ v. (shape : Var → Shape) (s : Store N) → Shows N.numbers self.now.names.now self.now.slots.items shape s
             → fit_from N.numbers routine.now (actuals_in self.now.names.now shape s actuals.now) 0 ≡ true) }
@@ -246,9 +250,12 @@ impl<'a, N: Number> Frame<'a, N> {
         if slots.len() != count {
             slots = blanks(alloc, count)?;
         }
+        let mut is_full = true;
         for i in 0..count {
-            self.renew(alloc, routine, actuals, i, &mut slots[i])?;
+            if !self.renew(alloc, routine, actuals, i, &mut slots[i])? {
+                is_full = false;
+            }
         }
-        Ok(slots)
+        Ok((slots, is_full))
     }
 }

@@ -9,7 +9,7 @@ ghost use Rattle.adj_interp_frame.specs.declared.slot.Slot.{Slot as ASlot};
 ghost use Rattle.adj_interp_frame.specs.Framed.{IsFrame, slot_shape};
 ghost use Rattle.adj_interp_frame.specs.Called.{words_in, AreActualsBelow};
 ghost use Rattle.def_meaning.specs.Units.{shape_fits};
-ghost use Rattle.adj_interp_frame.specs.Lent.{IsPlaceIn, IsFirst, IsLent, AreLent, IsFilled, AreFilled, HaveLent};
+ghost use Rattle.adj_interp_frame.specs.Lent.{IsPlaceIn, IsFirst, IsLent, AreLent, IsFilled, AreFilled, HaveCells, HaveLent};
 
 use crate::actual::Actual;
 use crate::entry::Unfit;
@@ -134,5 +134,20 @@ impl<'a, N: Number> Frame<'a, N> {
         for i in 0..slots.len() {
             self.lend_next(actuals, i, slots);
         }
+    }
+
+    /// Lends to an entry, unless it is known that none of its slots is without cells: then there is nothing to lend.
+    pub fn fill(&mut self, actuals: &[Actual<N>], slots: &mut [Slot<N>], is_full: bool)
+        requires framed { IsFrame self.old.names.now self.old.slots.items }
+        requires below { AreActualsBelow self.old.slots.items actuals.now }
+        requires full { is_full ≡ true → HaveCells slots.old }
+        ensures names { self.new.names.now ≡ self.old.names.now }
+        ensures filled { (r : ARoutine) → AreLent r actuals.now slots.old → AreFilled self.old.slots.items actuals.now slots.old slots.new }
+        ensures lent { (r : ARoutine) → AreLent r actuals.now slots.old → HaveLent r actuals.now self.old.slots.items self.new.slots.items }
+    {
+        if is_full {
+            return;
+        }
+        self.lend(actuals, slots);
     }
 }

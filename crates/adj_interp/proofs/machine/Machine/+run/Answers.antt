@@ -481,8 +481,8 @@ call-returns-in_err-actuals-clause-ends g t c name found e s h =
     subst (λ z. Ends e o m.left z m) (sym err)
     (subst (λ z. Ends e z m.left (Err x) m) (sym at) (call_err (calls_of {C = g.row.N.Denot} (units_in rs) (c.args.depth - 1)) e s r r.writes.now args c.args.line m h (λ (v : Vec (Actual _) Global). actuals_in names e.shape s.store v.items) x (c.in_err-actuals.ensures.actuals e.shape (Some e.room) e.level s.store h.shown)))
 
-pub call-returns-in_err-frame-clause-ends : goal.call-returns-in_err-frame-clause-ends
-call-returns-in_err-frame-clause-ends g t c name found e s h =
+pub call-returns-in_err-entered-clause-ends : goal.call-returns-in_err-entered-clause-ends
+call-returns-in_err-entered-clause-ends g t c name found e s h =
     let rs = c.args.program.now in
     let m = c.args.self.now in
     let names = m.frame.names.now in
@@ -491,11 +491,11 @@ call-returns-in_err-frame-clause-ends g t c name found e s h =
     let lt = c.if-number-program.false in
     let k = subst (IsRoutine (units_in rs)) (sym c.index-program-number.is) (c.requires.program c.args.number r lt) in
     let at = call_at rs c.args.depth c.args.number name (positive c.args.depth c.if-depth-eq0.false) found (setting_at e) args c.args.line s r r.writes.now lt c.index-program-number.is k.writes in
-    let x = c.in_err-frame.field-0.0 in
-    let err : c.from_residual-in_err-frame.result ≡ Err c.in_err-frame.field-0.0 = search rules in
+    let x = c.in_err-entered.field-0.0 in
+    let err : c.from_residual-in_err-entered.result ≡ Err c.in_err-entered.field-0.0 = search rules in
     let o = calls_of {C = g.row.N.Denot} (units_in rs) c.args.depth (setting_at e) name args c.args.line s in
     let got = actuals_in names e.shape s.store c.in_ok-actuals.actuals.items in
-    let misfit = misfit_at x c.args.line (λ f. ap (λ all. fit_from g.N.Number.numbers r (actuals_in names e.shape s.store all) 0) (sym c.as_slice-given.ensures.value) ∙ f e.shape s.store h.shown) c.in_err-frame.ensures.misfit in
+    let misfit = misfit_at x c.args.line (λ f. ap (λ all. fit_from g.N.Number.numbers r (actuals_in names e.shape s.store all) 0) (sym c.as_slice-given.ensures.value) ∙ f e.shape s.store h.shown) c.in_err-entered.ensures.misfit in
     subst (λ z. Ends e o m.left z m) (sym err)
     (subst (λ z. Ends e z m.left (Err x) m) (sym at) (call_misfit (calls_of {C = g.row.N.Denot} (units_in rs) (c.args.depth - 1)) e s r r.writes.now args c.args.line m h got (c.in_ok-actuals.ensures.actuals e.shape (Some e.room) e.level s.store h.shown) x misfit))
 
@@ -505,7 +505,7 @@ call-run-ended-requires g t c κs alive =
     let r = c.index-program-number.result in
     let lt = c.if-number-program.false in
     let k = subst (IsRoutine (units_in rs)) (sym c.index-program-number.is) (c.requires.program c.args.number r lt) in
-    let f = c.in_ok-frame.ensures in
+    let f = c.in_ok-entered.ensures in
     let o = c.in_ok-outer.ensures in
     let us = c.enter.new.self.frame.slots.items in
     let filled = o.filled r f.lent in
@@ -533,7 +533,7 @@ call-hand_back-requires-clause-framed g t c =
     let all = c.as_slice-given.result.now in
     let outer = c.in_ok-outer.outer.frame in
     let frame = ap (λ (z : Machine _). z.frame) c.leave-inner.ensures.back in
-    let lent = o.lent r c.in_ok-frame.ensures.lent in
+    let lent = o.lent r c.in_ok-entered.ensures.lent in
     subst (λ (z : Frame _). IsFrameFrom r all 0 z.names.now z.slots.items) (sym frame)
     (subst (λ ns. IsFrameFrom r all 0 ns outer.slots.items) (sym o.caller) (lent_frame r all m.names.now m.slots.items outer.slots.items c.requires.framed lent))
 
@@ -544,7 +544,7 @@ call-hand_back-requires-clause-below g t c =
     let all = c.as_slice-given.result.now in
     let outer = c.in_ok-outer.outer.frame in
     let frame = ap (λ (z : Machine _). z.frame) c.leave-inner.ensures.back in
-    let lent = c.in_ok-outer.ensures.lent r c.in_ok-frame.ensures.lent in
+    let lent = c.in_ok-outer.ensures.lent r c.in_ok-entered.ensures.lent in
     let below = subst (AreActualsBelow m.slots.items) (sym c.as_slice-given.ensures.value) c.in_ok-actuals.ensures.below in
     subst (λ (z : Frame _). AreActualsWithin z.slots.items all) (sym frame) (lent_within r all m.names.now m.slots.items outer.slots.items c.requires.framed lent below)
 
@@ -565,7 +565,7 @@ call-hand_back-requires-clause-large g t c =
     let m = c.args.self.now.frame in
     let mine = shapes_in m.names.now m.slots.items in
     let held = store_in g.N.Number.numbers m.names.now m.slots.items in
-    let f = c.in_ok-frame.ensures in
+    let f = c.in_ok-entered.ensures in
     let itself = shows_itself g.N.Number.numbers m.names.now m.slots.items in
     let found = c.in_ok-actuals.ensures.actuals mine None 0 held itself in
     let value = c.as_slice-given.ensures.value in
@@ -599,7 +599,7 @@ call-returns-in_err-ended-clause-ends g t c name found e s h =
     let q = calls_of {C = g.row.N.Denot} (units_in rs) (c.args.depth - 1) in
     let got = actuals_in names e.shape s.store c.in_ok-actuals.actuals.items in
     let value = c.as_slice-given.ensures.value in
-    let f = c.in_ok-frame.ensures in
+    let f = c.in_ok-entered.ensures in
     let us = c.enter.new.self.frame.slots.items in
     let filled = c.in_ok-outer.ensures.filled r f.lent in
     let fit = ap (λ all. fit_from g.N.Number.numbers r (actuals_in names e.shape s.store all) 0) (sym value) ∙ f.fits e.shape s.store h.shown in
@@ -628,7 +628,7 @@ call-returns-then-not-is_closed-clause-ends g t c name found e s h =
     let q = calls_of {C = g.row.N.Denot} (units_in rs) (c.args.depth - 1) in
     let got = actuals_in names e.shape s.store c.in_ok-actuals.actuals.items in
     let value = c.as_slice-given.ensures.value in
-    let f = c.in_ok-frame.ensures in
+    let f = c.in_ok-entered.ensures in
     let us = c.enter.new.self.frame.slots.items in
     let filled = c.in_ok-outer.ensures.filled r f.lent in
     let fit = ap (λ all. fit_from g.N.Number.numbers r (actuals_in names e.shape s.store all) 0) (sym value) ∙ f.fits e.shape s.store h.shown in
@@ -657,7 +657,7 @@ call-returns-clause-ends g t c name found e s h =
     let q = calls_of {C = g.row.N.Denot} (units_in rs) (c.args.depth - 1) in
     let got = actuals_in names e.shape s.store c.in_ok-actuals.actuals.items in
     let value = c.as_slice-given.ensures.value in
-    let f = c.in_ok-frame.ensures in
+    let f = c.in_ok-entered.ensures in
     let us = c.enter.new.self.frame.slots.items in
     let filled = c.in_ok-outer.ensures.filled r f.lent in
     let fit = ap (λ all. fit_from g.N.Number.numbers r (actuals_in names e.shape s.store all) 0) (sym value) ∙ f.fits e.shape s.store h.shown in
@@ -705,18 +705,18 @@ call-returns-in_err-ended-clause-counts g t c =
     let m = c.args.self.now.frame in
     let outer = c.in_ok-outer.outer.frame in
     c.hand_back.ensures.counts ∙ ap (λ (z : Machine _). sizes_in z.frame.slots.items) c.leave-inner.ensures.back
-    ∙ lent_sizes c.index-program-number.result c.as_slice-given.result.now m.names.now m.slots.items outer.slots.items c.requires.framed (c.in_ok-outer.ensures.lent c.index-program-number.result c.in_ok-frame.ensures.lent)
+    ∙ lent_sizes c.index-program-number.result c.as_slice-given.result.now m.names.now m.slots.items outer.slots.items c.requires.framed (c.in_ok-outer.ensures.lent c.index-program-number.result c.in_ok-entered.ensures.lent)
 
 pub call-returns-then-not-is_closed-clause-counts : goal.call-returns-then-not-is_closed-clause-counts
 call-returns-then-not-is_closed-clause-counts g t c =
     let m = c.args.self.now.frame in
     let outer = c.in_ok-outer.outer.frame in
     c.hand_back.ensures.counts ∙ ap (λ (z : Machine _). sizes_in z.frame.slots.items) c.leave-inner.ensures.back
-    ∙ lent_sizes c.index-program-number.result c.as_slice-given.result.now m.names.now m.slots.items outer.slots.items c.requires.framed (c.in_ok-outer.ensures.lent c.index-program-number.result c.in_ok-frame.ensures.lent)
+    ∙ lent_sizes c.index-program-number.result c.as_slice-given.result.now m.names.now m.slots.items outer.slots.items c.requires.framed (c.in_ok-outer.ensures.lent c.index-program-number.result c.in_ok-entered.ensures.lent)
 
 pub call-returns-clause-counts : goal.call-returns-clause-counts
 call-returns-clause-counts g t c =
     let m = c.args.self.now.frame in
     let outer = c.in_ok-outer.outer.frame in
     c.hand_back.ensures.counts ∙ ap (λ (z : Machine _). sizes_in z.frame.slots.items) c.leave-inner.ensures.back
-    ∙ lent_sizes c.index-program-number.result c.as_slice-given.result.now m.names.now m.slots.items outer.slots.items c.requires.framed (c.in_ok-outer.ensures.lent c.index-program-number.result c.in_ok-frame.ensures.lent)
+    ∙ lent_sizes c.index-program-number.result c.as_slice-given.result.now m.names.now m.slots.items outer.slots.items c.requires.framed (c.in_ok-outer.ensures.lent c.index-program-number.result c.in_ok-entered.ensures.lent)

@@ -1,4 +1,4 @@
-use Rattle.std.proofs.Common.{rules, ◌≡◌, List, sym, subst, Vec, Global}
+use Rattle.std.proofs.Common.{rules, ◌≡◌, take, List, sym, subst, Vec, Global}
 use Rattle.std.specs.Prelude.{Err}
 use Rattle.def_meaning.specs.Units.{Actual, actual_of, actuals}
 use Rattle.adj_interp_frame.specs.declared.actual.Actual.{Actual as CodeActual}
@@ -20,4 +20,4 @@ returns-in_err-actual-clause-actuals g c shape room level s h =
     let got = rw c.in-More.is at (c.loop-current.invariant.got shape room level s h) in
     let one = subst (λ t. Gets (actual_in names shape s) c.args.line (actual_of n (term_in names t) s) (Err x)) c.deref.ensures (c.in_err-actual.ensures.actual shape room level s h) in
     subst (Gets all c.args.line whole) (sym r)
-    (actual_breaks whole (actual_of n (term_in names c.in-More.first.value) s) (actuals n (terms_in names c.in-More.rest.value) s) (actuals_in names shape s c.loop-current.found.items) (actual_in names shape s) all c.args.line x got one)
+    (actual_breaks whole (actual_of n (term_in names c.in-More.first.value) s) (actuals n (terms_in names c.in-More.rest.value) s) (actuals_in names shape s (take c.loop-current.count c.loop-current.list.items)) (actual_in names shape s) all c.args.line x got one)

@@ -1,5 +1,5 @@
 -- The actuals so far, and what the others come to.
-use Rattle.std.proofs.Common.{◌≡◌, ◌++◌, ℕ, length}
+use Rattle.std.proofs.Common.{◌≡◌, ◌≤◌, ◌++◌, ℕ, length, take}
 use Rattle.std.specs.Prelude.{Ok, Option}
 use Rattle.adj_tree.specs.Code.{Var}
 use Rattle.def_meaning.specs.Store.{Shape, Store}
@@ -13,7 +13,8 @@ use Rattle.adj_interp.proofs.machine.Machine.actuals.Given as goal
 abbrev pub invariant-loop-current : goal.invariant-loop-current
 invariant-loop-current g l = record {
   below : AreTermsBelow (length l.self.frame.names.now) l.current;
-  there : AreActualsBelow l.self.frame.slots.items l.found.items;
+  within : l.count ≤ length l.list.items;
+  there : AreActualsBelow l.self.frame.slots.items (take l.count l.list.items);
   got : (shape : Var → Shape) (room : Option ℕ) (level : ℕ) (s : Store g.row.N.Denot) → Shows g.N.Number.numbers l.self.frame.names.now l.self.frame.slots.items shape s →
-      actuals (on_numbers g.N.Number.numbers shape room level) (terms_in l.self.frame.names.now l.terms) s ≡ then_ok (actuals (on_numbers g.N.Number.numbers shape room level) (terms_in l.self.frame.names.now l.current) s) (λ got. Ok (actuals_in l.self.frame.names.now shape s l.found.items ++ got));
+      actuals (on_numbers g.N.Number.numbers shape room level) (terms_in l.self.frame.names.now l.terms) s ≡ then_ok (actuals (on_numbers g.N.Number.numbers shape room level) (terms_in l.self.frame.names.now l.current) s) (λ got. Ok (actuals_in l.self.frame.names.now shape s (take l.count l.list.items) ++ got));
 }

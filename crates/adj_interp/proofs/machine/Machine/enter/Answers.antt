@@ -3,10 +3,13 @@ use Rattle.def_meaning.specs.Event.{Enter}
 use Rattle.adj_interp_frame.specs.declared.frame.Frame.{Frame}
 use Rattle.adj_interp.specs.Tallied.{Tallied, with_entry}
 use Rattle.adj_interp.specs.Held.{Tells}
-use Rattle.adj_interp_frame.specs.Lent.{AreLent, AreFilled, HaveLent}
+use Rattle.adj_interp_frame.specs.Lent.{AreLent, AreFilled, HaveCells, HaveLent}
 use Rattle.adj_interp.proofs.Calling.{entry_count, filled_whole}
 use Rattle.adj_interp.proofs.Driving.{told_next}
 use Rattle.adj_interp.proofs.machine.Machine.enter.Goals as goal
+
+pub fill-requires-clause-full : goal.fill-requires-clause-full
+fill-requires-clause-full g c all = subst HaveCells (sym c.as_mut_slice.ensures.value) (c.requires.full all)
 
 pub returns-clause-holds : goal.returns-clause-holds
 returns-clause-holds g c e s shape t name shapes h q =
@@ -34,9 +37,9 @@ returns-clause-filled g c r l =
     let v = c.as_mut_slice.ensures.value in
     let len : vec_len c.args.frame.slots ≡ length c.args.frame.slots.items = search rules in
     subst (λ (f : Frame _). AreFilled c.args.self.now.frame.slots.items c.args.actuals.now c.args.frame.slots.items f.slots.items) (sym c.replace.ensures.after)
-    (filled_whole c.args.self.now.frame.slots.items c.args.actuals.now ws.items c.as_mut_slice.result.now c.lend.new.slots (vec_len ws) v len (c.lend.ensures.filled r (subst (AreLent r c.args.actuals.now) (sym v) l)))
+    (filled_whole c.args.self.now.frame.slots.items c.args.actuals.now ws.items c.as_mut_slice.result.now c.fill.new.slots (vec_len ws) v len (c.fill.ensures.filled r (subst (AreLent r c.args.actuals.now) (sym v) l)))
 
 pub returns-clause-lent : goal.returns-clause-lent
 returns-clause-lent g c r l =
-    let same : c.replace.result ≡ c.lend.new.self = search rules in
-    subst (λ (f : Frame _). HaveLent r c.args.actuals.now c.args.self.now.frame.slots.items f.slots.items) (sym same) (c.lend.ensures.lent r (subst (AreLent r c.args.actuals.now) (sym c.as_mut_slice.ensures.value) l))
+    let same : c.replace.result ≡ c.fill.new.self = search rules in
+    subst (λ (f : Frame _). HaveLent r c.args.actuals.now c.args.self.now.frame.slots.items f.slots.items) (sym same) (c.fill.ensures.lent r (subst (AreLent r c.args.actuals.now) (sym c.as_mut_slice.ensures.value) l))

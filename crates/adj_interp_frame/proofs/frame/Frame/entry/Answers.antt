@@ -12,6 +12,7 @@ use Rattle.adj_interp_frame.specs.Lent.{HasLender, IsFilled}
 use Rattle.adj_interp_frame.proofs.Failing.{err_is}
 use Rattle.adj_interp_frame.proofs.Entering.{entered_shown, set_each}
 use Rattle.adj_interp_frame.proofs.frame.Frame.entry.Goals as goal
+use Rattle.adj_interp_frame.proofs.frame.Frame.entry.Goals.{then-not-branch, else-not-branch}
 
 pub loop-i-preserved : goal.loop-i-preserved
 loop-i-preserved g c =
@@ -27,11 +28,18 @@ loop-i-preserved g c =
     let there : i < length slots = let n = inv.count in let m = c.loop-i-test.true in omega (arith, n, m) in
     record {
       count = length-set slots i v ∙ inv.count;
+      full = λ all. elim c.if-not-branch.branch [
+        | then-not-branch w ↦ let no = w.is_full-is in absurd cc
+        | else-not-branch w ↦ set_each (λ k z. z.cells.items ≡ [] → ⊥) slots v i there (inv.full (sym w.is_full-is ∙ all)) (made.cells w.if-not-branch.false)
+      ];
       lent = set_each (λ k z. z.cells.items ≡ [] → HasLender r all k) slots v i there inv.lent made.lent;
       sized = set_each (λ k z. (u : Slot _) → IsFilled vs all k z u → IsSlot u) slots v i there inv.sized made.sized;
       entered = set_each (λ k z. (u : Slot _) → IsFilled vs all k z u → (shape : Var → Shape) (s : Store _) → Shows g.N.Number.numbers names vs shape s → IsEntered g.N.Number.numbers r (actuals_in names shape s all) k u) slots v i there inv.entered made.entered;
       fits = λ shape s h. inv.fits shape s h ∙ made.fits shape s h;
     }
+
+pub returns-clause-full : goal.returns-clause-full
+returns-clause-full g c all k d lt = let n = c.loop-i.invariant.count in c.loop-i.invariant.full all k d (omega (arith, lt, n))
 
 pub returns-clause-lent : goal.returns-clause-lent
 returns-clause-lent g c k d lt = let n = c.loop-i.invariant.count in c.loop-i.invariant.lent k d (omega (arith, lt, n))
@@ -60,6 +68,7 @@ returns-clause-shown g c us f shape s h =
 pub returns-in_err-renew : goal.returns-in_err-renew
 returns-in_err-renew g c =
     rw (err_is c.from_residual-in_err-renew.result c.in_err-renew.field-0.0 c.from_residual-in_err-renew.ensures.1) (record {
+      full = tt;
       lent = tt;
       framed = tt;
       shown = tt;

@@ -6,6 +6,13 @@ use Rattle.adj_interp_frame.proofs.Entering.{scalar_fit, no_extents, scalar_ente
 use Rattle.adj_interp_frame.proofs.Borrowing.{not_empty, own_slot, own_entered}
 use Rattle.adj_interp_frame.proofs.frame.Frame.renew.Goals as goal
 
+pub returns-in-Scalar-true-clause-cells : goal.returns-in-Scalar-true-clause-cells
+returns-in-Scalar-true-clause-cells g c kept e =
+    let v = c.hold.new.self in
+    let sh = c.hold.ensures.shape ∙ c.in-Scalar-true.ensures.shape refl in
+    let sized : IsSlot v = ap length c.hold.ensures.cells ∙ ap size_of (sym sh) in
+    absurd (not_empty v sized e)
+
 pub returns-in-Scalar-true-clause-lent : goal.returns-in-Scalar-true-clause-lent
 returns-in-Scalar-true-clause-lent g c e =
     let v = c.hold.new.self in
