@@ -2,7 +2,7 @@
 use Rattle.std.proofs.Common.{ℕ, ℤ, ◌≤◌, ◌<◌, ◌-◌, length, get_or}
 use Rattle.adj_interp_frame.specs.declared.slot.Slot.{Slot}
 use Rattle.adj_interp_frame.specs.Framed.{IsSlot}
-use Rattle.test_run.proofs.doubling.machine.Given as goal
+use Rattle.test_programs.proofs.doubling.machine.Given as goal
 
 abbrev pub invariant-each : goal.invariant-each
 invariant-each l = record {

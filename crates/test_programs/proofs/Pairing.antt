@@ -2,7 +2,7 @@
 use Rattle.std.proofs.Common.{◌≡◌, List, [], ◌∷◌, map, length, refl, arith}
 use Rattle.std.specs.Prelude.{ℤ}
 use Rattle.adj_interp.specs.Dually.{AreTangents}
-use Rattle.test_run.specs.Scalars.{scalar_of}
+use Rattle.test_programs.specs.Scalars.{scalar_of}
 
 -- as many tangents are tangents
 pub scalar_tangents : (ws ts : List ℤ) → length ts ≡ length ws → AreTangents (map scalar_of ws) (map scalar_of ts)

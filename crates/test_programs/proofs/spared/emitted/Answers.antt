@@ -10,7 +10,7 @@ use Rattle.adj_flow.specs.Marked.{activity_of}
 use Rattle.adj_weave.specs.Marked.{marks_told}
 use Rattle.law_analysed.proofs.Lending.{exact_shadows}
 use Rattle.law_emitted.proofs.Calling.{unsplit_may}
-use Rattle.test_weave.proofs.spared.emitted.Goals as goal
+use Rattle.test_programs.proofs.spared.emitted.Goals as goal
 
 pub adjoint-requires-clause-kernel : goal.adjoint-requires-clause-kernel
 adjoint-requires-clause-kernel c = c.requires.checked.kernel

@@ -9,7 +9,7 @@ use Rattle.def_meaning.specs.Numbers.{words}
 use Rattle.def_meaning.specs.Store.{Store}
 use Rattle.def_meaning.specs.Units.{fits, slots_fit, input_store}
 use Rattle.adj_interp.specs.Concludes.{slot_seen}
-use Rattle.test_run.specs.Scalars.{scalar_of}
+use Rattle.test_programs.specs.Scalars.{scalar_of}
 
 each_fits : (u : Procedure) (s : Store ℤ) → u.declarations ≡ [] → (ds : List (List ℕ)) (ws : List ℤ) → length ds ≡ length ws → slots_fit words u s ds (map slot_seen (map scalar_of ws)) ≡ true
 each_fits u s none [] [] n = refl

@@ -1,7 +1,7 @@
 //! Runs of the first unit of a text (docs/RUNNING.md), with what no command writes: the words on the tape, and what was counted where a run stops.
 
 ghost use Rattle.std.specs.Prelude.{◌≡◌, IfOk, length, map, true};
-ghost use Rattle.test_run.specs.Scalars.{scalar_of};
+ghost use Rattle.test_programs.specs.Scalars.{scalar_of};
 
 use adj_fixed::Mode;
 use adj_interp::{Log, Stop, run};
