@@ -9,6 +9,8 @@ pub mod Entering
 pub mod Suiting
 pub mod Borrowing
 pub mod Returning
+pub mod Taking
+pub mod Scalars
 pub mod Listing
 pub mod Declarations
 pub mod Failing

@@ -31,7 +31,7 @@ module _ {C : Type 0} where
   place_is names shape s (actual.Word w) = refl
 
   -- without dummies, flags or actuals nothing is copied
-  no_flags : (ds : List (List ℕ)) (got : List (Actual C)) (t s : Store C) → copied_out ds [] got t s ≡ s
+  pub no_flags : (ds : List (List ℕ)) (got : List (Actual C)) (t s : Store C) → copied_out ds [] got t s ≡ s
   no_flags [] got t s = refl
   no_flags (d ∷ ds) got t s = refl
 

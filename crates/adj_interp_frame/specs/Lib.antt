@@ -10,3 +10,4 @@ pub mod Linked
 pub mod Listed
 pub mod Declaring
 pub mod Lent
+pub mod Passed

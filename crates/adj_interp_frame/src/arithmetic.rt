@@ -21,6 +21,7 @@ fn quotient<N: Number>(found: Option<i64>) -> Result<N, Trap>
 }
 
 /// An operation on its operands.
+#[inline(always)]
 pub(crate) fn operation<N: Number>(op: Op, left: N, right: N) -> Result<N, Trap>
     ensures { result_of result ≡ operation N.numbers (op_of op) left right }
 {

@@ -1,6 +1,6 @@
 //! An entry of a unit: a slot for each of its variables.
 
-ghost use Rattle.std.specs.Prelude.{◌≡◌, ◌<◌, ◌∷◌, ℕ, IfOk, length, slice_index_or};
+ghost use Rattle.std.specs.Prelude.{◌≡◌, ◌<◌, ◌∷◌, ℕ, Ok, IfOk, IfSome, length, slice_index_or};
 ghost use Rattle.adj_tree.specs.Code.{Var};
 ghost use Rattle.def_meaning.specs.Store.{Shape, Store, set, set_all};
 ghost use Rattle.def_meaning.specs.Trap.{then_ok};
@@ -58,8 +58,8 @@ impl<'a, N: Number> Frame<'a, N> {
             }
             Term::Neg(a) => Ok(self.operand(a)?.negation()),
             Term::Bin(op, a, b) => {
-                let left = self.operand(a)?;
-                let right = self.operand(b)?;
+                let left = self.nested(a)?;
+                let right = self.nested(b)?;
                 operation(*op, left, right)
             }
             Term::Pow(a, power) => Ok(self.operand(a)?.power(*power)),
@@ -82,14 +82,45 @@ impl<'a, N: Number> Frame<'a, N> {
         ensures value { let n = setting_in_slots N.numbers self.now.names.now self.now.slots.items in
             result_of result ≡ value n (term_in self.now.names.now term.now) (store_in N.numbers self.now.names.now self.now.slots.items) }
     {
-        match term {
-            Term::Lit(word) => Ok(N::of_word(*word)),
-            Term::Var(i) => Ok(self.slots[*i].first()),
-            _ => match self.value(term) {
+        match self.simple(term) {
+            Some(number) => Ok(number),
+            None => match self.value(term) {
                 Ok(number) => Ok(number),
                 Err(trap) => Err(trap),
             },
         }
+    }
+
+    // The value of a word or a scalar, which is read in place.
+    #[inline(always)]
+    fn simple(&self, term: &Term) -> Option<N>
+        requires framed { IsFrame self.now.names.now self.now.slots.items }
+        requires below { IsTermBelow (length self.now.slots.items) term.now }
+        ensures value { let n = setting_in_slots N.numbers self.now.names.now self.now.slots.items in
+            IfSome result (λ z. Ok z ≡ value n (term_in self.now.names.now term.now) (store_in N.numbers self.now.names.now self.now.slots.items)) }
+    {
+        match term {
+            Term::Lit(word) => Some(N::of_word(*word)),
+            Term::Var(i) => Some(self.slots[*i].first()),
+            _ => None,
+        }
+    }
+
+    // The value of an operand of an operation. One that is itself an operation on words and scalars, as most are that are none of these, is done in place.
+    #[inline(always)]
+    #[cycle(value)]
+    fn nested(&self, term: &Term) -> Result<N, Trap>
+        requires framed { IsFrame self.now.names.now self.now.slots.items }
+        requires below { IsTermBelow (length self.now.slots.items) term.now }
+        ensures value { let n = setting_in_slots N.numbers self.now.names.now self.now.slots.items in
+            result_of result ≡ value n (term_in self.now.names.now term.now) (store_in N.numbers self.now.names.now self.now.slots.items) }
+    {
+        if let Term::Bin(op, a, b) = term {
+            if let (Some(left), Some(right)) = (self.simple(a), self.simple(b)) {
+                return operation(*op, left, right);
+            }
+        }
+        self.operand(term)
     }
 
     /// The cell that subscripts of a variable name.

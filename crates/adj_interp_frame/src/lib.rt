@@ -18,6 +18,7 @@ mod laws;
 mod layout;
 mod lending;
 mod numbering;
+mod passing;
 mod preparation;
 mod prepare;
 mod routine;

@@ -73,17 +73,6 @@ value-returns-in-Var g t c =
       value = rw c.in-Var.is (ap Ok (c.first.ensures ∙ ap (λ (w : Slot _). get_or w.cells.items 0 (zero_in g.N.Number.numbers)) c.index.ensures ∙ sym (read_cell g.N.Number.numbers names vs i v 0 c.requires.framed below)));
     }
 
-pub operand-returns-in-Var : goal.operand-returns-in-Var
-operand-returns-in-Var g t c =
-    let names = c.args.self.now.names.now in
-    let vs = c.args.self.now.slots.items in
-    let i = c.in-Var.i in
-    let v = c.index.result.now in
-    let below = rw c.in-Var.is at c.requires.below in
-    record {
-      value = rw c.in-Var.is (ap Ok (c.first.ensures ∙ ap (λ (w : Slot _). get_or w.cells.items 0 (zero_in g.N.Number.numbers)) c.index.ensures ∙ sym (read_cell g.N.Number.numbers names vs i v 0 c.requires.framed below)));
-    }
-
 pub value-returns-in_ok-cell-in-Elem : goal.value-returns-in_ok-cell-in-Elem
 value-returns-in_ok-cell-in-Elem g t c =
     let names = c.args.self.now.names.now in
@@ -258,16 +247,16 @@ value-operand-requires g t c κs alive =
     let left = ap size-Term c.deref.ensures in
     (omega (arith, c.decreases, whole, was, left), (alive, (c.requires.framed, subst (IsTermBelow (length c.args.self.now.slots.items)) (sym c.deref.ensures) below)))
 
-pub value-operand-requires-in-Bin : goal.value-operand-requires-in-Bin
-value-operand-requires-in-Bin g t c κs alive =
+pub value-nested-requires : goal.value-nested-requires
+value-nested-requires g t c κs alive =
     let below = rw c.in-Bin.is at c.requires.below in
     let whole = sized-Bin c.in-Bin.op c.in-Bin.a c.in-Bin.b in
     let was = ap size-Term c.in-Bin.is in
     let left = ap size-Term c.deref-in-Bin.ensures in
     (omega (arith, c.decreases, whole, was, left), (alive, (c.requires.framed, subst (IsTermBelow (length c.args.self.now.slots.items)) (sym c.deref-in-Bin.ensures) below.0)))
 
-pub value-operand-requires-in-Bin-2 : goal.value-operand-requires-in-Bin-2
-value-operand-requires-in-Bin-2 g t c κs alive =
+pub value-nested-requires-in-Bin : goal.value-nested-requires-in-Bin
+value-nested-requires-in-Bin g t c κs alive =
     let below = rw c.in-Bin.is at c.requires.below in
     let whole = sized-Bin c.in-Bin.op c.in-Bin.a c.in-Bin.b in
     let was = ap size-Term c.in-Bin.is in

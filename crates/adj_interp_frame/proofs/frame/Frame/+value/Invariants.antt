@@ -8,19 +8,22 @@ use Rattle.adj_interp_frame.specs.Framed.{store_in, setting_in_slots}
 use Rattle.adj_interp_frame.proofs.frame.Frame.+value.Given as goal
 
 abbrev pub decreases-cell : goal.decreases-cell
-decreases-cell g l = 2 * goal.size-cell g l
+decreases-cell g l = 3 * goal.size-cell g l
 
 abbrev pub decreases-cell_behind : goal.decreases-cell_behind
-decreases-cell_behind g l = 2 * goal.size-cell_behind g l
+decreases-cell_behind g l = 3 * goal.size-cell_behind g l
 
 abbrev pub decreases-each_value : goal.decreases-each_value
-decreases-each_value g l = 2 * goal.size-each_value g l
+decreases-each_value g l = 3 * goal.size-each_value g l
 
 abbrev pub decreases-value : goal.decreases-value
-decreases-value g l = 2 * goal.size-value g l
+decreases-value g l = 3 * goal.size-value g l
 
 abbrev pub decreases-operand : goal.decreases-operand
-decreases-operand g l = 2 * goal.size-operand g l + 1
+decreases-operand g l = 3 * goal.size-operand g l + 1
+
+abbrev pub decreases-nested : goal.decreases-nested
+decreases-nested g l = 3 * goal.size-nested g l + 2
 
 abbrev pub invariant-each_value-loop-current : goal.invariant-each_value-loop-current
 invariant-each_value-loop-current g l = record {
