@@ -38,10 +38,11 @@ use Rattle.adj_interp_frame.proofs.Suiting.{one_cell, suited_on}
 use Rattle.adj_interp.specs.declared.stop.Stop.{Stop}
 use Rattle.adj_interp.specs.declared.stop.Stop.TheVariants as stop
 use Rattle.adj_interp.specs.declared.machine.Machine.{Machine}
-use Rattle.adj_interp.specs.Tallied.{Tallied, with_entry}
+use Rattle.def_meaning.specs.Event.{Enter}
+use Rattle.adj_interp.specs.Tallied.{Tallied, with_event, with_entry}
 use Rattle.adj_interp.specs.Held.{Tells, Entry, setting_at, Holds, Stands, Runs, Uses, IsTrapped, HasMore, IsFull, Ends}
 use Rattle.adj_interp.specs.Entered.{Gets, IsMisfit, inside, closed}
-use Rattle.adj_interp.proofs.Driving.{uses_none, uses_then, uses_in, uses_on, uses_alike, holds_stand, ends_break, done_at_once}
+use Rattle.adj_interp.proofs.Driving.{uses_none, uses_then, uses_in, uses_on, uses_alike, holds_stand, ends_break, done_at_once, told_next}
 
 -- ---- how deep calls go
 
@@ -381,3 +382,29 @@ module _ {C : Type 0} {numbers : Numbers C} where
       let one = one_cell numbers (procedure_of r.unit.now) t r.names f.slots.items shape s framed shown e in
       let suited = suited_on (IsScalarIn (procedure_of r.unit.now)) (HasOneCell r.names (counts_in f.slots.items)) one units (code_of r.unit.now.body) k.suited in
       subst (λ ns. AreSuited units (HasOneCell ns (counts_in f.slots.items)) (steps_in ns r.body)) (sym named) (subst (AreSuited units (HasOneCell r.names (counts_in f.slots.items))) (sym k.body) suited)
+
+-- ---- the entry of a unit
+
+module _ {C : Type 0} {numbers : Numbers C} where
+  -- a machine that went into a unit has its first scene in hand
+  pub went_in : (e : Entry numbers) (m m1 m2 : Machine C) (first f : Frame C) (l : ℕ) (s : Scene C) (shape : Var → Shape) (t : Store C) (name : List ℕ) (shapes : List Shape)
+      → m1 ≡ record m { tally = m1.tally } → m1.tally ≡ with_event m.tally (Enter name (suc m.level) (length m.tape.words) shapes) → l ≡ suc m.level → m2 ≡ record m1 { frame = first; base = length m1.tally.begun; level = l; cursor = None }
+      → Holds e m s → Shows numbers f.names.now f.slots.items shape t
+      → Holds (inside e shape (length m.tally.begun)) (record m2 { frame = f }) (record { store = t; tape = s.tape; opened = 0; events = Enter name (suc e.level) (length s.tape) shapes ∷ s.events })
+  went_in e m m1 m2 first f l s shape t name shapes same counted one into h q =
+      let was = h.level in
+      let level : l ≡ suc e.level = one ∙ ap suc was in
+      let tape = ap (λ (z : Machine C). z.tape) into ∙ ap (λ (z : Machine C). z.tape) same in
+      let tally = ap (λ (z : Machine C). z.tally) into in
+      let told : m2.tally ≡ with_entry (suc e.level) (length s.tape) m.tally.log m.tally.begun = tally ∙ counted ∙ (λ i. with_entry (suc (was i)) (length (sym h.tape i)) m.tally.log m.tally.begun) in
+      let based : m2.base ≡ length m1.tally.begun = ap (λ (z : Machine C). z.base) into in
+      let begun = ap (λ (z : Tallied). length z.begun) tally in
+      record {
+        room = ap (λ (z : Held C). z.room) tape ∙ h.room;
+        level = ap (λ (z : Machine C). z.level) into ∙ level;
+        base = based ∙ ap (λ (z : Tallied). length z.begun) counted ∙ entry_count (suc m.level) (length m.tape.words) m.tally.log m.tally.begun;
+        shown = q;
+        tape = h.tape ∙ ap (λ (z : Held C). z.words) (sym tape);
+        opened = omega (arith, based, begun);
+        told = subst (λ z. Tells z (Enter name (suc e.level) (length s.tape) shapes ∷ s.events)) (sym told) (told_next m.tally (Enter name (suc e.level) (length s.tape) shapes) s.events h.told);
+      }

@@ -3,6 +3,7 @@ pub mod Driving
 pub mod Serving
 pub mod Plans
 pub mod Calling
+pub mod Wholes
 pub mod Accepted
 pub mod Inputting
 pub mod Concluding

@@ -1,6 +1,6 @@
 //! What a call does before the unit that is called runs, and after. (docs/RUNNING.md, "Calls")
 
-ghost use Rattle.std.specs.Prelude.{◌≡◌, ◌≤◌, ◌==◌, ◌∷◌, ◌++◌, [], take, List, ℕ, suc, Option, IfOk, IfErr, OnOk, OnErr, length, true, false};
+ghost use Rattle.std.specs.Prelude.{◌≡◌, ◌≤◌, ◌<◌, ◌==◌, ◌∷◌, ◌++◌, [], take, List, ℕ, suc, Option, None, IfOk, IfErr, OnOk, OnErr, length, slice_index_or, true, false};
 ghost use Rattle.adj_tree.specs.Code.{Var};
 ghost use Rattle.def_meaning.specs.Event.{Enter};
 ghost use Rattle.def_meaning.specs.Scene.{Scene};
@@ -13,8 +13,10 @@ ghost use Rattle.adj_interp_frame.specs.Framed.{IsFrame};
 ghost use Rattle.adj_interp_frame.specs.Shown.{on_numbers, Shows};
 ghost use Rattle.adj_interp_frame.specs.Suited.{counts_in, AreAsLarge};
 ghost use Rattle.adj_interp_frame.specs.Called.{actual_in, actuals_in, IsActualBelow, AreActualsBelow, IsLaidOut, entered_with, shapes_with, fit_from};
+ghost use Rattle.adj_interp_frame.specs.Passed.{AreWhole, wholes};
 ghost use Rattle.adj_interp_frame.specs.Lent.{AreLent, AreFilled, HaveCells, HaveLent, IsFrameFrom, ShowsHeld, AreRead, sizes_in, AreActualsWithin};
 ghost use Rattle.adj_interp.specs.declared.stop.Stop.TheVariants as stop;
+ghost use Rattle.adj_interp.specs.Tallied.{with_event};
 ghost use Rattle.adj_interp.specs.Held.{Entry, Holds};
 ghost use Rattle.adj_interp.specs.Entered.{Gets, IsMisfit, inside};
 
@@ -106,15 +108,18 @@ impl<'a, N: Number> Machine<'a, N> {
         }
     }
 
-    // Keeps the slots of a call of the unit of a number, and lets the cells of its arrays go, unless it is known that there are none.
-    fn keep_slots(&self, number: usize, mut slots: Vec<Slot<N>>, is_full: bool) {
-        if !is_full {
-            for i in 0..slots.len() {
-                slots[i].release(self.alloc);
-            }
-        }
+    // Keeps the slots of a call of the unit of a number.
+    #[inline(always)]
+    fn keep_slots(&self, number: usize, slots: Vec<Slot<N>>) {
         if let Some(spare) = self.spare_slots.get(number) {
             spare.keep(slots);
+        }
+    }
+
+    // Lets the cells of arrays go.
+    fn release(&self, slots: &mut [Slot<N>]) {
+        for i in 0..slots.len() {
+            slots[i].release(self.alloc);
         }
     }
 
@@ -154,10 +159,41 @@ impl<'a, N: Number> Machine<'a, N> {
         }
     }
 
+    /// Counts the entry of a unit that is called; gives its level.
+    #[inline(always)]
+    pub(crate) fn count_entry(&mut self) -> Result<u64, Stop>
+        ensures memory { IfErr result (λ x. x ≡ stop.Memory) }
+        ensures same { self.new ≡ record self.old { tally = self.new.tally } }
+        ensures level { IfOk result (λ level. level ≡ suc self.old.level) }
+        ensures told { OnOk result ((name : List ℕ) (shapes : List Shape) → self.new.tally ≡ with_event self.old.tally (Enter name (suc self.old.level) (length self.old.tape.words) shapes)) }
+    {
+        let Some(level) = self.level.checked_add(1) else {
+            return Err(Stop::Memory);
+        };
+        let height = self.tape.len();
+        self.tally.enter(level, height)?;
+        Ok(level)
+    }
+
+    /// Goes into a unit whose entry was counted, with its slots; gives what the caller has in hand.
+    #[inline(always)]
+    pub(crate) fn step_in(&mut self, frame: Frame<'a, N>, level: u64) -> Outer<'a, N>
+        ensures outer { result ≡ record { frame = self.old.frame; base = self.old.base; level = self.old.level; cursor = self.old.cursor } }
+        ensures into { self.new ≡ record self.old { frame = frame.entry; base = length self.old.tally.begun; level = level; cursor = None } }
+    {
+        let open = self.tally.open();
+        Outer {
+            frame: mem::replace(&mut self.frame, frame),
+            base: mem::replace(&mut self.base, open),
+            level: mem::replace(&mut self.level, level),
+            cursor: self.cursor.take(),
+        }
+    }
+
     /// Goes into a unit that is called, and lends it the cells that its entry is to have, unless it is known to have all; gives what the caller has in hand.
     pub(crate) fn enter(
         &mut self,
-        mut frame: Frame<'a, N>,
+        frame: Frame<'a, N>,
         actuals: &[Actual<N>],
         is_full: bool,
     ) -> Result<Outer<'a, N>, Stop>
@@ -176,20 +212,12 @@ impl<'a, N: Number> Machine<'a, N> {
         ensures holds { OnOk result ((e : Entry N.numbers) (s : Scene N) (shape : Var → Shape) (t : Store N) (name : List ℕ) (shapes : List Shape) → Holds e self.old s → Shows N.numbers self.new.frame.names.now self.new.frame.slots.items shape t
             → Holds (inside e shape (length self.old.tally.begun)) self.new (record { store = t; tape = s.tape; opened = 0; events = Enter name (suc e.level) (length s.tape) shapes ∷ s.events })) }
     {
-        let Some(level) = self.level.checked_add(1) else {
-            return Err(Stop::Memory);
-        };
-        let height = self.tape.len();
-        self.tally.enter(level, height)?;
-        let open = self.tally.open();
-        self.frame
-            .fill(actuals, frame.slots.as_mut_slice(), is_full);
-        Ok(Outer {
-            frame: mem::replace(&mut self.frame, frame),
-            base: mem::replace(&mut self.base, open),
-            level: mem::replace(&mut self.level, level),
-            cursor: self.cursor.take(),
-        })
+        let level = self.count_entry()?;
+        let mut outer = self.step_in(frame, level);
+        outer
+            .frame
+            .fill(actuals, self.frame.slots.as_mut_slice(), is_full);
+        Ok(outer)
     }
 
     /// Goes back to the caller; gives the entry of the unit that was called, and whether none of its reversals is open.
@@ -230,6 +258,35 @@ impl<'a, N: Number> Machine<'a, N> {
     {
         self.frame
             .hand_back(routine, actuals, inner.slots.as_mut_slice());
-        self.keep_slots(number, inner.into_slots(), is_full);
+        if !is_full {
+            self.release(inner.slots.as_mut_slice());
+        }
+        self.keep_slots(number, inner.into_slots());
+    }
+
+    /// Copies the dummies that are written back to the variables that they got. The slots serve the next call.
+    pub(crate) fn take_back(
+        &mut self,
+        routine: &Routine<'a>,
+        terms: &Terms,
+        number: usize,
+        inner: Frame<'a, N>,
+    )
+        requires framed { IsFrame self.old.frame.names.now self.old.frame.slots.items }
+        requires below { AreTermsBelow (length self.old.frame.slots.items) terms.now }
+        requires laid { IsLaidOut routine.now }
+        requires whole { AreWhole terms.now }
+        requires inner { IsFrame routine.now.names inner.slots.items }
+        requires ones { (j : ℕ) → j < length routine.now.unit.now.dummies → slice_index_or (counts_in inner.slots.items) j 0 ≡ 1 }
+        requires large { AreAsLarge (length routine.now.unit.now.dummies) (counts_in self.old.frame.slots.items) (wholes {C = N} terms.now) (counts_in inner.slots.items) }
+        ensures names { self.new.frame.names.now ≡ self.old.frame.names.now }
+        ensures framed { IsFrame self.old.frame.names.now self.new.frame.slots.items }
+        ensures counts { counts_in self.new.frame.slots.items ≡ counts_in self.old.frame.slots.items }
+        ensures same { self.new ≡ record self.old { frame = self.new.frame } }
+        ensures handed { (shape within : Var → Shape) (s s0 t : Store N) → Shows N.numbers self.old.frame.names.now self.old.frame.slots.items shape s → Shows N.numbers routine.now.names inner.entry.slots.items within t
+            → Shows N.numbers self.old.frame.names.now self.new.frame.slots.items shape (copied_out routine.now.unit.now.dummies routine.now.writes.now (actuals_in self.old.frame.names.now shape s0 (wholes terms.now)) t s) }
+    {
+        self.frame.take_back(routine, terms, inner.slots.as_slice());
+        self.keep_slots(number, inner.into_slots());
     }
 }

@@ -9,10 +9,12 @@ ghost use Rattle.def_meaning.specs.Units.{calls_of};
 ghost use Rattle.def_meaning.specs.Written.{find_unit};
 ghost use Rattle.def_meaning.specs.Run.{Calls, act, run, turns, with_turn, stepped, tests, most_tests};
 ghost use Rattle.adj_interp_frame.specs.declared.slot.Slot.{Slot};
+ghost use Rattle.adj_interp_frame.specs.declared.routine.Routine.{Routine as ARoutine};
 ghost use Rattle.adj_interp_frame.specs.Prepared.{var_at, term_in, test_in, terms_in, IsTermBelow, AreTermsBelow, IsTestBelow};
 ghost use Rattle.adj_interp_frame.specs.Instructed.{task_in, steps_in, marking_in, IsCellBelow, AreBoundsBelow, IsTaskBelow, AreStepsBelow};
 ghost use Rattle.adj_interp_frame.specs.Linked.{IsTaskLinked, AreLinked, units_in, AreRoutines};
 ghost use Rattle.adj_interp_frame.specs.Framed.{IsFrame};
+ghost use Rattle.adj_interp_frame.specs.Passed.{ArePassed};
 ghost use Rattle.adj_interp_frame.specs.Suited.{AreTermsSuited, IsSuited, AreSuited, counts_in};
 ghost use Rattle.adj_interp.specs.Held.{Entry, setting_at, Holds, OneCelled, Ends, Finds, stopped_at, bounds_in};
 
@@ -268,9 +270,85 @@ impl<'a, N: Number> Machine<'a, N> {
             return Err(Stop::Trap(Trap::Shape, line));
         }
         let routine = &program[number];
+        let mut slots = self.kept_slots(number);
+        if self.frame.pass(routine, terms, slots.as_mut_slice()) {
+            return self.call_passed(program, depth, number, terms, slots, line);
+        }
+        self.call_given(program, depth, number, terms, slots, line)
+    }
+
+    // Does a call that hands whole variables to a unit of scalars, whose slots were passed their numbers.
+    #[inline(always)]
+    #[cycle(run)]
+    fn call_passed(
+        &mut self,
+        program: &'a [Routine<'a>],
+        depth: u64,
+        number: usize,
+        terms: &Terms,
+        slots: Vec<Slot<N>>,
+        line: u32,
+    ) -> Result<(), Stop>
+        requires framed { IsFrame self.old.frame.names.now self.old.frame.slots.items }
+        requires below { AreTermsBelow (length self.old.frame.names.now) terms.now }
+        requires program { AreRoutines program.now }
+        requires deep { 0 < depth }
+        requires number { number < length program.now }
+        requires passed { (d : ARoutine) → ArePassed N.numbers (slice_index_or program.now number d) self.old.frame.names.now self.old.frame.slots.items terms.now slots.items }
+        requires suited { (u : Procedure) → slice_get (units_in program.now) number ≡ Some u → AreTermsSuited (OneCelled self.old) u u.dummies (terms_in self.old.frame.names.now terms.now) }
+        ensures names { self.new.frame.names.now ≡ self.old.frame.names.now }
+        ensures framed { IsFrame self.old.frame.names.now self.new.frame.slots.items }
+        ensures counts { counts_in self.new.frame.slots.items ≡ counts_in self.old.frame.slots.items }
+        ensures room { self.new.tape.room ≡ self.old.tape.room }
+        ensures ends { (name : List ℕ) → find_unit (units_in program.now) name ≡ slice_get (units_in program.now) number → (e : Entry N.numbers) (s : Scene N) → Holds e self.old s
+            → Ends e (calls_of (units_in program.now) depth (setting_at e) name (terms_in self.old.frame.names.now terms.now) line s) self.old.left result self.new }
+    {
+        let routine = &program[number];
+        let level = self.count_entry()?;
+        let frame = Frame {
+            names: &routine.names,
+            slots,
+        };
+        let outer = self.step_in(frame, level);
+        let ended = self.run(program, depth - 1, &routine.body);
+        let (inner, is_closed) = self.leave(outer);
+        self.take_back(routine, terms, number, inner);
+        ended?;
+        if !is_closed {
+            return Err(Stop::Trap(Trap::Schedule, line));
+        }
+        Ok(())
+    }
+
+    // Does a call whose actuals are evaluated one by one.
+    #[inline(never)]
+    #[cycle(run)]
+    fn call_given(
+        &mut self,
+        program: &'a [Routine<'a>],
+        depth: u64,
+        number: usize,
+        terms: &Terms,
+        room: Vec<Slot<N>>,
+        line: u32,
+    ) -> Result<(), Stop>
+        requires framed { IsFrame self.old.frame.names.now self.old.frame.slots.items }
+        requires below { AreTermsBelow (length self.old.frame.names.now) terms.now }
+        requires program { AreRoutines program.now }
+        requires deep { 0 < depth }
+        requires number { number < length program.now }
+        requires suited { (u : Procedure) → slice_get (units_in program.now) number ≡ Some u → AreTermsSuited (OneCelled self.old) u u.dummies (terms_in self.old.frame.names.now terms.now) }
+        ensures names { self.new.frame.names.now ≡ self.old.frame.names.now }
+        ensures framed { IsFrame self.old.frame.names.now self.new.frame.slots.items }
+        ensures counts { counts_in self.new.frame.slots.items ≡ counts_in self.old.frame.slots.items }
+        ensures room { self.new.tape.room ≡ self.old.tape.room }
+        ensures ends { (name : List ℕ) → find_unit (units_in program.now) name ≡ slice_get (units_in program.now) number → (e : Entry N.numbers) (s : Scene N) → Holds e self.old s
+            → Ends e (calls_of (units_in program.now) depth (setting_at e) name (terms_in self.old.frame.names.now terms.now) line s) self.old.left result self.new }
+    {
+        let routine = &program[number];
         let actuals = self.actuals(terms, line)?;
         let given = actuals.as_slice();
-        let entered = self.entry(routine, given, self.kept_slots(number), line)?;
+        let entered = self.entry(routine, given, room, line)?;
         let (frame, is_full) = entered;
         let outer = self.enter(frame, given, is_full)?;
         let ended = self.run(program, depth - 1, &routine.body);

@@ -23,12 +23,14 @@ use Rattle.adj_interp_frame.specs.declared.routine.Routine.{Routine}
 use Rattle.adj_interp_frame.specs.Linked.{IsRoutine, units_in}
 use Rattle.adj_interp_frame.specs.Shown.{on_numbers, Shows}
 use Rattle.adj_interp_frame.specs.Called.{actuals_in, AreActualsBelow, entered_with, shapes_with, fit_from}
+use Rattle.adj_interp_frame.specs.Passed.{wholes, ArePassed}
 use Rattle.adj_interp_frame.specs.Lent.{IsFrameFrom, ShowsHeld, AreRead, AreActualsWithin, sizes_in}
 use Rattle.adj_interp_frame.proofs.Borrowing.{lent_frame, lent_within, lent_sizes, lent_shows}
 use Rattle.adj_interp.specs.declared.call.Outer.{Outer}
 use Rattle.adj_interp.specs.Entered.{inside}
 use Rattle.adj_tree.specs.View.{procedure_of}
 use Rattle.adj_interp.proofs.Calling.{all_sizes, unit_at, unwritten_read, size_within, less_deep, positive, call_past, call_at, call_err, misfit_at, call_misfit, unit_ends, call_break, call_open, call_done, entered_suited}
+use Rattle.adj_interp.proofs.Wholes.{whole_names, whole_framed, whole_suited, whole_large, whole_break, whole_open, whole_done}
 use Rattle.adj_interp_frame.specs.Framed.{IsFrame, shapes_in, store_in}
 use Rattle.adj_interp_frame.specs.Suited.{AreSuited, counts_in, HasOneCell, AreAsLarge}
 use Rattle.adj_interp_frame.proofs.Showing.{shows_itself}
@@ -465,32 +467,32 @@ call-returns-then-number-program-clause-ends g t c name found e s h =
     subst (λ z. Ends e z m.left (Err (stop.Trap trap.Shape c.args.line)) m) (sym past)
     (uses_none (λ k. Trapped shape_trap c.args.line (stand (setting_at e) s)) m.left m.left refl (λ j. IsTrapped g.N.Number.numbers m trap.Shape c.args.line) (λ j. (refl, refl, holds_stand e m s h)))
 
-pub call-returns-in_err-actuals-clause-ends : goal.call-returns-in_err-actuals-clause-ends
-call-returns-in_err-actuals-clause-ends g t c name found e s h =
+pub call_given-returns-in_err-actuals-clause-ends : goal.call_given-returns-in_err-actuals-clause-ends
+call_given-returns-in_err-actuals-clause-ends g t c name found e s h =
     let rs = c.args.program.now in
     let m = c.args.self.now in
     let names = m.frame.names.now in
     let args = terms_in names c.args.terms.now in
     let r = c.index-program-number.result in
-    let lt = c.if-number-program.false in
+    let lt = c.requires.number in
     let k = subst (IsRoutine (units_in rs)) (sym c.index-program-number.is) (c.requires.program c.args.number r lt) in
-    let at = call_at rs c.args.depth c.args.number name (positive c.args.depth c.if-depth-eq0.false) found (setting_at e) args c.args.line s r r.writes.now lt c.index-program-number.is k.writes in
+    let at = call_at rs c.args.depth c.args.number name c.requires.deep found (setting_at e) args c.args.line s r r.writes.now lt c.index-program-number.is k.writes in
     let x = c.in_err-actuals.field-0.0 in
     let err : c.from_residual.result ≡ Err c.in_err-actuals.field-0.0 = search rules in
     let o = calls_of {C = g.row.N.Denot} (units_in rs) c.args.depth (setting_at e) name args c.args.line s in
     subst (λ z. Ends e o m.left z m) (sym err)
     (subst (λ z. Ends e z m.left (Err x) m) (sym at) (call_err (calls_of {C = g.row.N.Denot} (units_in rs) (c.args.depth - 1)) e s r r.writes.now args c.args.line m h (λ (v : Vec (Actual _) Global). actuals_in names e.shape s.store v.items) x (c.in_err-actuals.ensures.actuals e.shape (Some e.room) e.level s.store h.shown)))
 
-pub call-returns-in_err-entered-clause-ends : goal.call-returns-in_err-entered-clause-ends
-call-returns-in_err-entered-clause-ends g t c name found e s h =
+pub call_given-returns-in_err-entered-clause-ends : goal.call_given-returns-in_err-entered-clause-ends
+call_given-returns-in_err-entered-clause-ends g t c name found e s h =
     let rs = c.args.program.now in
     let m = c.args.self.now in
     let names = m.frame.names.now in
     let args = terms_in names c.args.terms.now in
     let r = c.index-program-number.result in
-    let lt = c.if-number-program.false in
+    let lt = c.requires.number in
     let k = subst (IsRoutine (units_in rs)) (sym c.index-program-number.is) (c.requires.program c.args.number r lt) in
-    let at = call_at rs c.args.depth c.args.number name (positive c.args.depth c.if-depth-eq0.false) found (setting_at e) args c.args.line s r r.writes.now lt c.index-program-number.is k.writes in
+    let at = call_at rs c.args.depth c.args.number name c.requires.deep found (setting_at e) args c.args.line s r r.writes.now lt c.index-program-number.is k.writes in
     let x = c.in_err-entered.field-0.0 in
     let err : c.from_residual-in_err-entered.result ≡ Err c.in_err-entered.field-0.0 = search rules in
     let o = calls_of {C = g.row.N.Denot} (units_in rs) c.args.depth (setting_at e) name args c.args.line s in
@@ -499,11 +501,11 @@ call-returns-in_err-entered-clause-ends g t c name found e s h =
     subst (λ z. Ends e o m.left z m) (sym err)
     (subst (λ z. Ends e z m.left (Err x) m) (sym at) (call_misfit (calls_of {C = g.row.N.Denot} (units_in rs) (c.args.depth - 1)) e s r r.writes.now args c.args.line m h got (c.in_ok-actuals.ensures.actuals e.shape (Some e.room) e.level s.store h.shown) x misfit))
 
-pub call-run-ended-requires : goal.call-run-ended-requires
-call-run-ended-requires g t c κs alive =
+pub call_given-run-ended-requires : goal.call_given-run-ended-requires
+call_given-run-ended-requires g t c κs alive =
     let rs = c.args.program.now in
     let r = c.index-program-number.result in
-    let lt = c.if-number-program.false in
+    let lt = c.requires.number in
     let k = subst (IsRoutine (units_in rs)) (sym c.index-program-number.is) (c.requires.program c.args.number r lt) in
     let f = c.in_ok-entered.ensures in
     let o = c.in_ok-outer.ensures in
@@ -513,7 +515,7 @@ call-run-ended-requires g t c κs alive =
     let framed = f.framed us filled in
     let size = ap (λ (z : Routine). size-Steps z.body) c.index-program-number.is in
     let within = size_within rs c.args.number r lt in
-    let less = less_deep c.args.depth (suc (2 * all_sizes rs)) (2 * size-Steps r.body) 0 (positive c.args.depth c.if-depth-eq0.false) (omega (arith, size, within)) in
+    let less = less_deep c.args.depth (suc (2 * all_sizes rs)) (2 * size-Steps r.body) 0 c.requires.deep (omega (arith, size, within)) in
     let m = c.args.self.now.frame in
     let mine = shapes_in m.names.now m.slots.items in
     let held = store_in g.N.Number.numbers m.names.now m.slots.items in
@@ -525,8 +527,8 @@ call-run-ended-requires g t c κs alive =
 -- ---- what is handed back
 
 -- the caller's slots have lent their cells
-pub call-hand_back-requires-clause-framed : goal.call-hand_back-requires-clause-framed
-call-hand_back-requires-clause-framed g t c =
+pub call_given-hand_back-requires-clause-framed : goal.call_given-hand_back-requires-clause-framed
+call_given-hand_back-requires-clause-framed g t c =
     let r = c.index-program-number.result in
     let m = c.args.self.now.frame in
     let o = c.in_ok-outer.ensures in
@@ -537,8 +539,8 @@ call-hand_back-requires-clause-framed g t c =
     subst (λ (z : Frame _). IsFrameFrom r all 0 z.names.now z.slots.items) (sym frame)
     (subst (λ ns. IsFrameFrom r all 0 ns outer.slots.items) (sym o.caller) (lent_frame r all m.names.now m.slots.items outer.slots.items c.requires.framed lent))
 
-pub call-hand_back-requires-clause-below : goal.call-hand_back-requires-clause-below
-call-hand_back-requires-clause-below g t c =
+pub call_given-hand_back-requires-clause-below : goal.call_given-hand_back-requires-clause-below
+call_given-hand_back-requires-clause-below g t c =
     let r = c.index-program-number.result in
     let m = c.args.self.now.frame in
     let all = c.as_slice-given.result.now in
@@ -549,18 +551,18 @@ call-hand_back-requires-clause-below g t c =
     subst (λ (z : Frame _). AreActualsWithin z.slots.items all) (sym frame) (lent_within r all m.names.now m.slots.items outer.slots.items c.requires.framed lent below)
 
 -- the unit is laid out
-pub call-hand_back-requires-clause-laid : goal.call-hand_back-requires-clause-laid
-call-hand_back-requires-clause-laid g t c =
+pub call_given-hand_back-requires-clause-laid : goal.call_given-hand_back-requires-clause-laid
+call_given-hand_back-requires-clause-laid g t c =
     let rs = c.args.program.now in
-    let k = subst (IsRoutine (units_in rs)) (sym c.index-program-number.is) (c.requires.program c.args.number c.index-program-number.result c.if-number-program.false) in
+    let k = subst (IsRoutine (units_in rs)) (sym c.index-program-number.is) (c.requires.program c.args.number c.index-program-number.result c.requires.number) in
     k.laid
 
 -- what is handed back has the cells of the actuals
-pub call-hand_back-requires-clause-large : goal.call-hand_back-requires-clause-large
-call-hand_back-requires-clause-large g t c =
+pub call_given-hand_back-requires-clause-large : goal.call_given-hand_back-requires-clause-large
+call_given-hand_back-requires-clause-large g t c =
     let rs = c.args.program.now in
     let r = c.index-program-number.result in
-    let lt = c.if-number-program.false in
+    let lt = c.requires.number in
     let k = subst (IsRoutine (units_in rs)) (sym c.index-program-number.is) (c.requires.program c.args.number r lt) in
     let m = c.args.self.now.frame in
     let mine = shapes_in m.names.now m.slots.items in
@@ -583,16 +585,16 @@ call-hand_back-requires-clause-large g t c =
     let inner = ap (λ (z : Frame _). counts_in z.slots.items) c.leave-inner.ensures.frame ∙ c.run-ended.ensures.counts in
     subst (λ z. z) (λ i. AreAsLarge (length r.unit.now.dummies) (sym sizes i) all (sym inner i)) large
 
-pub call-returns-in_err-ended-clause-ends : goal.call-returns-in_err-ended-clause-ends
-call-returns-in_err-ended-clause-ends g t c name found e s h =
+pub call_given-returns-in_err-ended-clause-ends : goal.call_given-returns-in_err-ended-clause-ends
+call_given-returns-in_err-ended-clause-ends g t c name found e s h =
     let rs = c.args.program.now in
     let m = c.args.self.now in
     let names = m.frame.names.now in
     let args = terms_in names c.args.terms.now in
     let r = c.index-program-number.result in
-    let lt = c.if-number-program.false in
+    let lt = c.requires.number in
     let k = subst (IsRoutine (units_in rs)) (sym c.index-program-number.is) (c.requires.program c.args.number r lt) in
-    let at = call_at rs c.args.depth c.args.number name (positive c.args.depth c.if-depth-eq0.false) found (setting_at e) args c.args.line s r r.writes.now lt c.index-program-number.is k.writes in
+    let at = call_at rs c.args.depth c.args.number name c.requires.deep found (setting_at e) args c.args.line s r r.writes.now lt c.index-program-number.is k.writes in
     let x = c.in_err-ended.field-0.0 in
     let err : c.from_residual-in_err-ended.result ≡ Err c.in_err-ended.field-0.0 = search rules in
     let o = calls_of {C = g.row.N.Denot} (units_in rs) c.args.depth (setting_at e) name args c.args.line s in
@@ -615,16 +617,16 @@ call-returns-in_err-ended-clause-ends g t c name found e s h =
     (subst (λ z. Ends e z m.left (Err x) m3) (sym at)
     (call_break q e s r r.writes.now args c.args.line m h got (c.in_ok-actuals.ensures.actuals e.shape (Some e.room) e.level s.store h.shown) fit c.run-ended.new.self x m3 ends (ap (λ (z : Machine _). z.left) same ∙ ap (λ (z : Machine _). z.left) back) (ap (λ (z : Machine _). z.tape) same ∙ ap (λ (z : Machine _). z.tape) back) (ap (λ (z : Machine _). z.tally) same ∙ ap (λ (z : Machine _). z.tally) back)))
 
-pub call-returns-then-not-is_closed-clause-ends : goal.call-returns-then-not-is_closed-clause-ends
-call-returns-then-not-is_closed-clause-ends g t c name found e s h =
+pub call_given-returns-then-not-is_closed-clause-ends : goal.call_given-returns-then-not-is_closed-clause-ends
+call_given-returns-then-not-is_closed-clause-ends g t c name found e s h =
     let rs = c.args.program.now in
     let m = c.args.self.now in
     let names = m.frame.names.now in
     let args = terms_in names c.args.terms.now in
     let r = c.index-program-number.result in
-    let lt = c.if-number-program.false in
+    let lt = c.requires.number in
     let k = subst (IsRoutine (units_in rs)) (sym c.index-program-number.is) (c.requires.program c.args.number r lt) in
-    let at = call_at rs c.args.depth c.args.number name (positive c.args.depth c.if-depth-eq0.false) found (setting_at e) args c.args.line s r r.writes.now lt c.index-program-number.is k.writes in
+    let at = call_at rs c.args.depth c.args.number name c.requires.deep found (setting_at e) args c.args.line s r r.writes.now lt c.index-program-number.is k.writes in
     let q = calls_of {C = g.row.N.Denot} (units_in rs) (c.args.depth - 1) in
     let got = actuals_in names e.shape s.store c.in_ok-actuals.actuals.items in
     let value = c.as_slice-given.ensures.value in
@@ -643,16 +645,16 @@ call-returns-then-not-is_closed-clause-ends g t c name found e s h =
     subst (λ z. Ends e z m.left (Err (stop.Trap trap.Schedule c.args.line)) m3) (sym at)
     (call_open q e s r r.writes.now args c.args.line m h got (c.in_ok-actuals.ensures.actuals e.shape (Some e.room) e.level s.store h.shown) fit c.run-ended.new.self m3 ends (sym c.leave-inner.ensures.closed ∙ c.if-not-is_closed.true) (ap (λ (z : Machine _). z.left) same ∙ ap (λ (z : Machine _). z.left) back) (ap (λ (z : Machine _). z.tape) same ∙ ap (λ (z : Machine _). z.tape) back) (ap (λ (z : Machine _). z.tally) same ∙ ap (λ (z : Machine _). z.tally) back))
 
-pub call-returns-clause-ends : goal.call-returns-clause-ends
-call-returns-clause-ends g t c name found e s h =
+pub call_given-returns-clause-ends : goal.call_given-returns-clause-ends
+call_given-returns-clause-ends g t c name found e s h =
     let rs = c.args.program.now in
     let m = c.args.self.now in
     let names = m.frame.names.now in
     let args = terms_in names c.args.terms.now in
     let r = c.index-program-number.result in
-    let lt = c.if-number-program.false in
+    let lt = c.requires.number in
     let k = subst (IsRoutine (units_in rs)) (sym c.index-program-number.is) (c.requires.program c.args.number r lt) in
-    let at = call_at rs c.args.depth c.args.number name (positive c.args.depth c.if-depth-eq0.false) found (setting_at e) args c.args.line s r r.writes.now lt c.index-program-number.is k.writes in
+    let at = call_at rs c.args.depth c.args.number name c.requires.deep found (setting_at e) args c.args.line s r r.writes.now lt c.index-program-number.is k.writes in
     let o = calls_of {C = g.row.N.Denot} (units_in rs) c.args.depth (setting_at e) name args c.args.line s in
     let q = calls_of {C = g.row.N.Denot} (units_in rs) (c.args.depth - 1) in
     let got = actuals_in names e.shape s.store c.in_ok-actuals.actuals.items in
@@ -700,23 +702,96 @@ call-returns-clause-ends g t c name found e s h =
 
 -- ---- the caller's entry after a call
 
-pub call-returns-in_err-ended-clause-counts : goal.call-returns-in_err-ended-clause-counts
-call-returns-in_err-ended-clause-counts g t c =
-    let m = c.args.self.now.frame in
-    let outer = c.in_ok-outer.outer.frame in
+pub call_given-returns-in_err-ended-clause-counts : goal.call_given-returns-in_err-ended-clause-counts
+call_given-returns-in_err-ended-clause-counts g t c =
     c.hand_back.ensures.counts ∙ ap (λ (z : Machine _). sizes_in z.frame.slots.items) c.leave-inner.ensures.back
-    ∙ lent_sizes c.index-program-number.result c.as_slice-given.result.now m.names.now m.slots.items outer.slots.items c.requires.framed (c.in_ok-outer.ensures.lent c.index-program-number.result c.in_ok-entered.ensures.lent)
+    ∙ lent_sizes c.index-program-number.result c.as_slice-given.result.now c.args.self.now.frame.names.now c.args.self.now.frame.slots.items c.in_ok-outer.outer.frame.slots.items c.requires.framed (c.in_ok-outer.ensures.lent c.index-program-number.result c.in_ok-entered.ensures.lent)
 
-pub call-returns-then-not-is_closed-clause-counts : goal.call-returns-then-not-is_closed-clause-counts
-call-returns-then-not-is_closed-clause-counts g t c =
-    let m = c.args.self.now.frame in
-    let outer = c.in_ok-outer.outer.frame in
+pub call_given-returns-then-not-is_closed-clause-counts : goal.call_given-returns-then-not-is_closed-clause-counts
+call_given-returns-then-not-is_closed-clause-counts g t c =
     c.hand_back.ensures.counts ∙ ap (λ (z : Machine _). sizes_in z.frame.slots.items) c.leave-inner.ensures.back
-    ∙ lent_sizes c.index-program-number.result c.as_slice-given.result.now m.names.now m.slots.items outer.slots.items c.requires.framed (c.in_ok-outer.ensures.lent c.index-program-number.result c.in_ok-entered.ensures.lent)
+    ∙ lent_sizes c.index-program-number.result c.as_slice-given.result.now c.args.self.now.frame.names.now c.args.self.now.frame.slots.items c.in_ok-outer.outer.frame.slots.items c.requires.framed (c.in_ok-outer.ensures.lent c.index-program-number.result c.in_ok-entered.ensures.lent)
 
-pub call-returns-clause-counts : goal.call-returns-clause-counts
-call-returns-clause-counts g t c =
-    let m = c.args.self.now.frame in
-    let outer = c.in_ok-outer.outer.frame in
+pub call_given-returns-clause-counts : goal.call_given-returns-clause-counts
+call_given-returns-clause-counts g t c =
     c.hand_back.ensures.counts ∙ ap (λ (z : Machine _). sizes_in z.frame.slots.items) c.leave-inner.ensures.back
-    ∙ lent_sizes c.index-program-number.result c.as_slice-given.result.now m.names.now m.slots.items outer.slots.items c.requires.framed (c.in_ok-outer.ensures.lent c.index-program-number.result c.in_ok-entered.ensures.lent)
+    ∙ lent_sizes c.index-program-number.result c.as_slice-given.result.now c.args.self.now.frame.names.now c.args.self.now.frame.slots.items c.in_ok-outer.outer.frame.slots.items c.requires.framed (c.in_ok-outer.ensures.lent c.index-program-number.result c.in_ok-entered.ensures.lent)
+
+-- ---- calls that hand whole variables to units of scalars
+
+pub call_passed-run-ended-requires : goal.call_passed-run-ended-requires
+call_passed-run-ended-requires g t c κs alive =
+    let rs = c.args.program.now in
+    let m = c.args.self.now in
+    let r = c.index-program-number.result in
+    let lt = c.requires.number in
+    let k = subst (IsRoutine (units_in rs)) (sym c.index-program-number.is) (c.requires.program c.args.number r lt) in
+    let p = subst (λ z. ArePassed g.N.Number.numbers z m.frame.names.now m.frame.slots.items c.args.terms.now c.args.slots.items) (sym c.index-program-number.is) (c.requires.passed r) in
+    let size = ap (λ (z : Routine). size-Steps z.body) c.index-program-number.is in
+    let within = size_within rs c.args.number r lt in
+    let less = less_deep c.args.depth (suc (2 * all_sizes rs)) (2 * size-Steps r.body) 0 c.requires.deep (omega (arith, size, within)) in
+    let named = whole_names rs c.args.number r lt c.index-program-number.is k c.args.terms.now c.args.slots.items m c.count_entry.new.self c.step_in-outer.new.self _ c.in_ok-level.level p c.in_ok-level.ensures.same c.in_ok-level.ensures.told c.in_ok-level.ensures.level c.step_in-outer.ensures.into refl refl in
+    let framed = whole_framed rs c.args.number r lt c.index-program-number.is k c.args.terms.now c.args.slots.items m c.count_entry.new.self c.step_in-outer.new.self _ c.in_ok-level.level p c.in_ok-level.ensures.same c.in_ok-level.ensures.told c.in_ok-level.ensures.level c.step_in-outer.ensures.into refl refl in
+    let suited = whole_suited rs c.args.number r lt c.index-program-number.is k c.args.terms.now c.args.slots.items m c.count_entry.new.self c.step_in-outer.new.self _ c.in_ok-level.level p c.in_ok-level.ensures.same c.in_ok-level.ensures.told c.in_ok-level.ensures.level c.step_in-outer.ensures.into refl refl in
+    (omega (arith, c.decreases, less), (alive, (framed, (subst (λ ns. AreStepsBelow (length ns) r.body) (sym named) k.below, (c.requires.program, (k.linked, suited))))))
+
+-- the variables have as many cells as the dummies
+pub call_passed-take_back-requires-clause-large : goal.call_passed-take_back-requires-clause-large
+call_passed-take_back-requires-clause-large g t c =
+    let rs = c.args.program.now in
+    let m = c.args.self.now in
+    let r = c.index-program-number.result in
+    let lt = c.requires.number in
+    let k = subst (IsRoutine (units_in rs)) (sym c.index-program-number.is) (c.requires.program c.args.number r lt) in
+    let p = subst (λ z. ArePassed g.N.Number.numbers z m.frame.names.now m.frame.slots.items c.args.terms.now c.args.slots.items) (sym c.index-program-number.is) (c.requires.passed r) in
+    let is = unit_at rs c.args.number r lt ∙ ap (λ (z : Routine). Some (procedure_of z.unit.now)) (sym c.index-program-number.is) in
+    let large = whole_large rs c.args.number r lt c.index-program-number.is k c.args.terms.now c.args.slots.items m c.count_entry.new.self c.step_in-outer.new.self _ c.in_ok-level.level p c.in_ok-level.ensures.same c.in_ok-level.ensures.told c.in_ok-level.ensures.level c.step_in-outer.ensures.into refl refl c.requires.framed c.requires.below (c.requires.suited (procedure_of r.unit.now) is) in
+    let outer = ap (λ (z : Machine _). counts_in z.frame.slots.items) c.leave-inner.ensures.back ∙ ap (λ (z : Outer _). counts_in z.frame.slots.items) c.step_in-outer.ensures.outer ∙ ap (λ (z : Machine _). counts_in z.frame.slots.items) c.in_ok-level.ensures.same in
+    let inner = ap (λ (z : Frame _). counts_in z.slots.items) c.leave-inner.ensures.frame ∙ c.run-ended.ensures.counts in
+    subst (λ z. z) (λ i. AreAsLarge (length r.unit.now.dummies) (sym outer i) (wholes {C = g.row.N.Denot} c.args.terms.now) (sym inner i)) large
+
+pub call_passed-returns-in_err-ended-clause-ends : goal.call_passed-returns-in_err-ended-clause-ends
+call_passed-returns-in_err-ended-clause-ends g t c name found e s h =
+    let rs = c.args.program.now in
+    let m = c.args.self.now in
+    let r = c.index-program-number.result in
+    let lt = c.requires.number in
+    let k = subst (IsRoutine (units_in rs)) (sym c.index-program-number.is) (c.requires.program c.args.number r lt) in
+    let p = subst (λ z. ArePassed g.N.Number.numbers z m.frame.names.now m.frame.slots.items c.args.terms.now c.args.slots.items) (sym c.index-program-number.is) (c.requires.passed r) in
+    let err : c.from_residual-in_err-ended.result ≡ Err c.in_err-ended.field-0.0 = search rules in
+    let whole = calls_of {C = g.row.N.Denot} (units_in rs) c.args.depth (setting_at e) name (terms_in m.frame.names.now c.args.terms.now) c.args.line s in
+    subst (λ z. Ends e whole m.left z c.take_back.new.self) (sym err) (whole_break rs c.args.number r lt c.index-program-number.is k c.args.terms.now c.args.slots.items m c.count_entry.new.self c.step_in-outer.new.self _ c.in_ok-level.level p c.in_ok-level.ensures.same c.in_ok-level.ensures.told c.in_ok-level.ensures.level c.step_in-outer.ensures.into refl refl c.args.depth name c.requires.deep found c.args.line c.run-ended.new.self c.leave-inner.new.self c.take_back.new.self c.step_in-outer.result c.step_in-outer.ensures.outer c.leave-inner.ensures.back c.take_back.ensures.same e s h c.in_err-ended.field-0.0 c.in_err-ended.ensures.ends)
+
+pub call_passed-returns-then-not-is_closed-clause-ends : goal.call_passed-returns-then-not-is_closed-clause-ends
+call_passed-returns-then-not-is_closed-clause-ends g t c name found e s h =
+    let rs = c.args.program.now in
+    let m = c.args.self.now in
+    let r = c.index-program-number.result in
+    let lt = c.requires.number in
+    let k = subst (IsRoutine (units_in rs)) (sym c.index-program-number.is) (c.requires.program c.args.number r lt) in
+    let p = subst (λ z. ArePassed g.N.Number.numbers z m.frame.names.now m.frame.slots.items c.args.terms.now c.args.slots.items) (sym c.index-program-number.is) (c.requires.passed r) in
+    whole_open rs c.args.number r lt c.index-program-number.is k c.args.terms.now c.args.slots.items m c.count_entry.new.self c.step_in-outer.new.self _ c.in_ok-level.level p c.in_ok-level.ensures.same c.in_ok-level.ensures.told c.in_ok-level.ensures.level c.step_in-outer.ensures.into refl refl c.args.depth name c.requires.deep found c.args.line c.run-ended.new.self c.leave-inner.new.self c.take_back.new.self c.step_in-outer.result c.step_in-outer.ensures.outer c.leave-inner.ensures.back c.take_back.ensures.same e s h c.in_ok-ended.ensures.ends (sym c.leave-inner.ensures.closed ∙ c.if-not-is_closed.true)
+
+pub call_passed-returns-clause-ends : goal.call_passed-returns-clause-ends
+call_passed-returns-clause-ends g t c name found e s h =
+    let rs = c.args.program.now in
+    let m = c.args.self.now in
+    let r = c.index-program-number.result in
+    let lt = c.requires.number in
+    let k = subst (IsRoutine (units_in rs)) (sym c.index-program-number.is) (c.requires.program c.args.number r lt) in
+    let p = subst (λ z. ArePassed g.N.Number.numbers z m.frame.names.now m.frame.slots.items c.args.terms.now c.args.slots.items) (sym c.index-program-number.is) (c.requires.passed r) in
+    let all = wholes {C = g.row.N.Denot} c.args.terms.now in
+    let got = actuals_in m.frame.names.now e.shape s.store all in
+    let m5 = c.take_back.new.self in
+    let frame = ap (λ (z : Machine _). z.frame) c.leave-inner.ensures.back ∙ ap (λ (z : Outer _). z.frame) c.step_in-outer.ensures.outer ∙ ap (λ (z : Machine _). z.frame) c.in_ok-level.ensures.same in
+    let named = ap (λ (z : Frame _). z.names.now) frame in
+    let inner = c.leave-inner.ensures.frame in
+    let inner_names = ap (λ (z : Frame _). z.names.now) inner ∙ c.in_ok-ended.ensures.names ∙ whole_names rs c.args.number r lt c.index-program-number.is k c.args.terms.now c.args.slots.items m c.count_entry.new.self c.step_in-outer.new.self _ c.in_ok-level.level p c.in_ok-level.ensures.same c.in_ok-level.ensures.told c.in_ok-level.ensures.level c.step_in-outer.ensures.into refl refl in
+    whole_done rs c.args.number r lt c.index-program-number.is k c.args.terms.now c.args.slots.items m c.count_entry.new.self c.step_in-outer.new.self _ c.in_ok-level.level p c.in_ok-level.ensures.same c.in_ok-level.ensures.told c.in_ok-level.ensures.level c.step_in-outer.ensures.into refl refl c.args.depth name c.requires.deep found c.args.line c.run-ended.new.self c.leave-inner.new.self c.take_back.new.self c.step_in-outer.result c.step_in-outer.ensures.outer c.leave-inner.ensures.back c.take_back.ensures.same e s h c.in_ok-ended.ensures.ends (sym c.leave-inner.ensures.closed ∙ c.if-not-is_closed.false)
+    (λ u shows.
+    let mine = subst (λ (z : Frame _). Shows g.N.Number.numbers z.names.now z.slots.items e.shape s.store) (sym frame) h.shown in
+    let theirs = subst (λ (z : Frame _). Shows g.N.Number.numbers z.names.now z.slots.items (shapes_with g.N.Number.numbers r got) u) (sym inner) shows in
+    let own = subst (λ ns. Shows g.N.Number.numbers ns c.leave-inner.result.0.slots.items (shapes_with g.N.Number.numbers r got) u) inner_names theirs in
+    let out = c.take_back.ensures.handed e.shape (shapes_with g.N.Number.numbers r got) s.store s.store u mine own in
+    let copied = subst (λ ns. Shows g.N.Number.numbers ns m5.frame.slots.items e.shape (copied_out r.unit.now.dummies r.writes.now (actuals_in ns e.shape s.store all) u s.store)) named out in
+    subst (λ ns. Shows g.N.Number.numbers ns m5.frame.slots.items e.shape (copied_out r.unit.now.dummies r.writes.now got u s.store)) (sym (c.take_back.ensures.names ∙ named)) copied)

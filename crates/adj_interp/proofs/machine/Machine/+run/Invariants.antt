@@ -64,7 +64,7 @@ abbrev pub decreases-run : goal.decreases-run
 decreases-run g l = l.depth * suc (2 * all_sizes l.program.now) + 2 * goal.size-run g l
 
 abbrev pub decreases-perform : goal.decreases-perform
-decreases-perform g l = l.depth * suc (2 * all_sizes l.program.now) + (2 * goal.size-perform g l + 1)
+decreases-perform g l = l.depth * suc (2 * all_sizes l.program.now) + (2 * goal.size-perform g l + 2)
 
 abbrev pub decreases-turns : goal.decreases-turns
 decreases-turns g l = l.depth * suc (2 * all_sizes l.program.now) + (2 * goal.size-turns g l + 1)
@@ -73,4 +73,10 @@ abbrev pub decreases-tests : goal.decreases-tests
 decreases-tests g l = l.depth * suc (2 * all_sizes l.program.now) + (2 * goal.size-tests g l + 1)
 
 abbrev pub decreases-call : goal.decreases-call
-decreases-call g l = l.depth * suc (2 * all_sizes l.program.now)
+decreases-call g l = l.depth * suc (2 * all_sizes l.program.now) + 1
+
+abbrev pub decreases-call_passed : goal.decreases-call_passed
+decreases-call_passed g l = l.depth * suc (2 * all_sizes l.program.now)
+
+abbrev pub decreases-call_given : goal.decreases-call_given
+decreases-call_given g l = l.depth * suc (2 * all_sizes l.program.now)
