@@ -122,14 +122,15 @@ two_of f (x ∷ y ∷ []) d e lt le = refl
 two_of f (x ∷ y ∷ z ∷ xs) d e lt le = absurd (omega arith)
 
 -- a unit whose names begin with its dummies, and whose declarations have layouts, is laid out
-pub laid_out : (r : Routine) (ns : List (List ℕ)) (ls : List Layout) → AreApart r.names → Extends r.unit.now.dummies r.names → Extends ns r.names → Declares (map declaration_of r.unit.now.decls) ns ls → ((i : ℕ) → get_or r.layouts.items i layout.Scalar ≡ get_or ls i layout.Scalar) → length r.names ≡ length r.layouts.items → IsLaidOut r
-laid_out r ns ls a e f d same n = record {
+pub laid_out : (r : Routine) (ns : List (List ℕ)) (ls : List Layout) → AreApart r.names → Extends r.unit.now.dummies r.names → Extends ns r.names → Declares (map declaration_of r.unit.now.decls) ns ls → ((i : ℕ) → get_or r.layouts.items i layout.Scalar ≡ get_or ls i layout.Scalar) → length r.names ≡ length r.layouts.items → (r.is_plain ≡ true → (i : ℕ) (l : Layout) → i < length r.layouts.items → get_or r.layouts.items i l ≡ layout.Scalar) → IsLaidOut r
+laid_out r ns ls a e f d same n p = record {
   others = drop (length r.unit.now.dummies) r.names;
   names = begins_with r.unit.now.dummies r.names e;
   apart = a;
   each = n;
   declares = λ i l lt. let k = h.each i lt in sym (k.stands_for r.names (extends_self r.names)) ∙ ap (extents_at r.names) (sym (at i l lt));
   below = λ i l lt. let k = h.each i lt in subst (IsLayoutBelow (length r.names)) (sym (at i l lt)) (k.below r.names (extends_self r.names));
+  scalars = λ z i l lt. p z i l (omega (arith, lt, n));
   elsewhere = λ x s. h.elsewhere x s;
 }
   where

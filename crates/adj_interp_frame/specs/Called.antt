@@ -1,5 +1,5 @@
 -- Called: the actuals of a call, the units that are prepared, and what stands at the entry of one.
-use Rattle.std.specs.Prelude.{◌≡◌, ℕ, ◌<◌, ℤ, List, [], ◌∷◌, ◌++◌, map, length, slice_index_or, drop, Bool, false, ◌==◌, ◌&&◌, ◌||◌, Result, Ok, Err, Option, None, slice_get, nat_lt, if◌then◌else◌}
+use Rattle.std.specs.Prelude.{◌≡◌, ℕ, ◌<◌, ℤ, List, [], ◌∷◌, ◌++◌, map, length, slice_index_or, drop, Bool, true, false, ◌==◌, ◌&&◌, ◌||◌, Result, Ok, Err, Option, None, slice_get, nat_lt, if◌then◌else◌}
 use Rattle.adj_tree.specs.Code.{Var, plain, Term, Extent, fixed, given}
 use Rattle.adj_tree.specs.View.{procedure_of}
 use Rattle.adj_tree.specs.declared.value.Trap.{Trap as CodeTrap}
@@ -92,6 +92,8 @@ pub record IsLaidOut (r : Routine) : Type 0 where
   pub each : length r.names ≡ length r.layouts.items
   pub declares : (i : ℕ) (d : Layout) → i < length r.names → declared (procedure_of r.unit.now).declarations (plain (slice_index_or r.names i [])) ≡ extents_at r.names (slice_index_or r.layouts.items i d)
   pub below : (i : ℕ) (d : Layout) → i < length r.names → IsLayoutBelow (length r.names) (slice_index_or r.layouts.items i d)
+  -- where it is said to be plain, all are scalars
+  pub scalars : r.is_plain ≡ true → (i : ℕ) (d : Layout) → i < length r.names → slice_index_or r.layouts.items i d ≡ layout.Scalar
   pub elsewhere : (x : List ℕ) → has_name x r.names ≡ false → declared (procedure_of r.unit.now).declarations (plain x) ≡ []
 
 -- the store at the entry of a unit that gets these actuals

@@ -215,7 +215,7 @@ impl<'a, N: Number> Frame<'a, N> {
         ensures unfit { result ≡ Err unfit.Shape → (shape : Var → Shape) (s : Store N) → Shows N.numbers self.now.names.now self.now.slots.items shape s
             → fit_from N.numbers routine.now (actuals_in self.now.names.now shape s actuals.now) i ≡ false }
     {
-        if let (Layout::Scalar, true) = (routine.layouts[i], slot.is_scalar()) {
+        if let (Layout::Scalar, true) = (routine.layouts[i], slot.has_one_cell()) {
             slot.hold(self.entry_word(routine, actuals, i));
             return Ok(true);
         }

@@ -72,6 +72,22 @@ impl<'a, N: Number> Frame<'a, N> {
         }
     }
 
+    /// The value of an expression. An operation at its top is done in place: most expressions of assignments have one, and need no call of `value`.
+    #[inline(always)]
+    pub fn evaluate(&self, term: &Term) -> Result<N, Trap>
+        requires framed { IsFrame self.now.names.now self.now.slots.items }
+        requires below { IsTermBelow (length self.now.slots.items) term.now }
+        ensures value { let n = setting_in_slots N.numbers self.now.names.now self.now.slots.items in
+            result_of result ≡ value n (term_in self.now.names.now term.now) (store_in N.numbers self.now.names.now self.now.slots.items) }
+    {
+        if let Term::Bin(op, a, b) = term {
+            let left = self.nested(a)?;
+            let right = self.nested(b)?;
+            return operation(*op, left, right);
+        }
+        self.operand(term)
+    }
+
     // The value of an operand or a subscript. Most are words and scalars, which are read in place: the compiler puts this
     // function into those that call it, and no call is made for them.
     #[inline(always)]
@@ -116,8 +132,10 @@ impl<'a, N: Number> Frame<'a, N> {
             result_of result ≡ value n (term_in self.now.names.now term.now) (store_in N.numbers self.now.names.now self.now.slots.items) }
     {
         if let Term::Bin(op, a, b) = term {
-            if let (Some(left), Some(right)) = (self.simple(a), self.simple(b)) {
-                return operation(*op, left, right);
+            if let Some(left) = self.simple(a) {
+                if let Some(right) = self.simple(b) {
+                    return operation(*op, left, right);
+                }
             }
         }
         self.operand(term)

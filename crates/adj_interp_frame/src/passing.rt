@@ -5,7 +5,6 @@ ghost use Rattle.std.specs.Prelude.{◌≡◌, ◌≤◌, ◌<◌, ◌∷◌, �
 ghost use Rattle.adj_tree.specs.Code.{Var};
 ghost use Rattle.def_meaning.specs.Store.{scalar, Shape, Store};
 ghost use Rattle.def_meaning.specs.Units.{copied_out};
-ghost use Rattle.adj_interp_frame.specs.declared.layout.Layout.TheVariants as layout;
 ghost use Rattle.adj_interp_frame.specs.declared.slot.Slot.{Slot as ASlot};
 ghost use Rattle.adj_interp_frame.specs.Prepared.{AreTermsBelow};
 ghost use Rattle.adj_interp_frame.specs.Framed.{IsFrame, slot_shape};
@@ -16,19 +15,17 @@ ghost use Rattle.adj_interp_frame.specs.Passed.{AreWhole, wholes, IsPassed, AreP
 
 use crate::actual::Actual;
 use crate::frame::Frame;
-use crate::layout::Layout;
 use crate::routine::Routine;
 use crate::slot::Slot;
 use crate::term::{Term, Terms};
 use adj_number::Number;
 
-// Puts a number into the slot of a scalar that has its cell. The result is false where it is none.
-fn hold_scalar<N: Number>(extents: Layout, slot: &mut Slot<N>, number: N) -> bool
-    ensures extents { result ≡ true → extents ≡ layout.Scalar }
+// Makes a slot that has one cell that of a scalar, which holds a number. Where it hasn't the result is false.
+fn hold_scalar<N: Number>(slot: &mut Slot<N>, number: N) -> bool
     ensures shape { result ≡ true → slot_shape slot.new ≡ scalar }
     ensures cells { result ≡ true → slot.new.cells.items ≡ number ∷ [] }
 {
-    if let (Layout::Scalar, true) = (extents, slot.is_scalar()) {
+    if slot.has_one_cell() {
         slot.hold(number);
         return true;
     }
@@ -41,6 +38,7 @@ impl<'a, N: Number> Frame<'a, N> {
         requires framed { IsFrame self.now.names.now self.now.slots.items }
         requires below { AreTermsBelow (length self.now.slots.items) terms.now }
         requires laid { IsLaidOut routine.now }
+        requires plain { routine.now.is_plain ≡ true }
         requires many { length slots.old ≡ length routine.now.names }
         ensures many { length slots.new ≡ length slots.old }
         ensures whole { result ≡ true → AreWhole terms.now }
@@ -55,7 +53,7 @@ impl<'a, N: Number> Frame<'a, N> {
                 return false;
             };
             let number = self.first_of(Actual::Whole(variable));
-            if !hold_scalar(routine.layouts[i], &mut slots[i], number) {
+            if !hold_scalar(&mut slots[i], number) {
                 return false;
             }
             current = rest;
@@ -66,6 +64,7 @@ impl<'a, N: Number> Frame<'a, N> {
     // Puts 0 into the slots of the other variables, where they are scalars.
     fn pass_others(&self, routine: &Routine<'_>, terms: &Terms, slots: &mut [Slot<N>]) -> bool
         requires laid { IsLaidOut routine.now }
+        requires plain { routine.now.is_plain ≡ true }
         requires many { length slots.old ≡ length routine.now.names }
         ensures many { length slots.new ≡ length slots.old }
         ensures dummies { (j : ℕ) (d : ASlot N) → j < length routine.now.unit.now.dummies → slice_index_or slots.new j d ≡ slice_index_or slots.old j d }
@@ -73,7 +72,7 @@ impl<'a, N: Number> Frame<'a, N> {
     {
         let (_self, _terms) = (self, terms);
         for i in routine.unit.dummies.as_slice().len()..slots.len() {
-            if !hold_scalar(routine.layouts[i], &mut slots[i], N::of_word(0)) {
+            if !hold_scalar(&mut slots[i], N::of_word(0)) {
                 return false;
             }
         }
@@ -88,6 +87,9 @@ impl<'a, N: Number> Frame<'a, N> {
         requires laid { IsLaidOut routine.now }
         ensures passed { result ≡ true → ArePassed N.numbers routine.now self.now.names.now self.now.slots.items terms.now slots.new }
     {
+        if !routine.is_plain {
+            return false;
+        }
         if slots.len() != routine.names.as_slice().len() {
             return false;
         }

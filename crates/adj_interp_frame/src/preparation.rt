@@ -1,10 +1,11 @@
 //! Units that are prepared.
 
-ghost use Rattle.std.specs.Prelude.{◌≡◌, ◌<◌, ◌≤◌, ℕ, length, map, slice_index_or, IfOk, OnOk};
+ghost use Rattle.std.specs.Prelude.{◌≡◌, ◌<◌, ◌≤◌, ℕ, length, map, slice_index_or, true, IfOk, OnOk};
 ghost use Rattle.adj_tree.specs.View.{code_of, declaration_of, procedure_of};
 ghost use Rattle.adj_tree.specs.declared.unit.Decl.{Decl as ADecl};
 ghost use Rattle.def_meaning.specs.Apart.{AreApart};
 ghost use Rattle.def_meaning.specs.Written.{handed_back};
+ghost use Rattle.adj_interp_frame.specs.declared.layout.Layout.{Layout as ALayout};
 ghost use Rattle.adj_interp_frame.specs.declared.layout.Layout.TheVariants as layout;
 ghost use Rattle.adj_interp_frame.specs.Numbered.{Extends};
 ghost use Rattle.adj_interp_frame.specs.Listed.{IsDirectory};
@@ -71,6 +72,18 @@ fn listed(
     Ok(names)
 }
 
+// Whether all layouts are those of scalars.
+fn are_scalars(layouts: &[Layout]) -> bool
+    ensures { result ≡ true → (i : ℕ) (d : ALayout) → i < length layouts.now → slice_index_or layouts.now i d ≡ layout.Scalar }
+{
+    for layout in layouts {
+        let Layout::Scalar = layout else {
+            return false;
+        };
+    }
+    true
+}
+
 // A unit whose dummies have numbers is prepared.
 fn routine_behind<'a>(
     alloc: Global,
@@ -93,10 +106,12 @@ fn routine_behind<'a>(
     let mut layouts = layouts(alloc, numbers, unit.decls.as_slice())?;
     let body = numbers.steps(alloc, units, &unit.body)?;
     let names = listed(alloc, numbers, &mut layouts)?;
+    let is_plain = are_scalars(layouts.as_slice());
     Ok(Routine {
         unit,
         names,
         layouts,
+        is_plain,
         writes,
         body,
     })

@@ -67,20 +67,21 @@ impl<N: Number> Slot<N> {
         }
     }
 
-    /// Whether it is a scalar that has its cell.
-    pub(crate) fn is_scalar(&self) -> bool
-        ensures shape { result ≡ true → slot_shape self.now ≡ scalar }
-        ensures cell { result ≡ true → length self.now.cells.items ≡ 1 }
+    /// Whether it has one cell.
+    pub(crate) fn has_one_cell(&self) -> bool
+        ensures { result ≡ true → length self.now.cells.items ≡ 1 }
     {
-        self.rows == 0 && self.cols == 0 && self.cells.len() == 1
+        self.cells.len() == 1
     }
 
-    /// Puts a number into the cell of a scalar.
+    /// Makes it a scalar that holds a number.
     pub(crate) fn hold(&mut self, number: N)
         requires { length self.old.cells.items ≡ 1 }
-        ensures shape { slot_shape self.new ≡ slot_shape self.old }
+        ensures shape { slot_shape self.new ≡ scalar }
         ensures cells { self.new.cells.items ≡ number ∷ [] }
     {
+        self.rows = 0;
+        self.cols = 0;
         self.cells[0] = number;
     }
 

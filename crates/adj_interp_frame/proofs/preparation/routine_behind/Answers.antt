@@ -1,8 +1,10 @@
-use Rattle.std.proofs.Common.{map, length, refl, ap, sym, subst, ◌∙◌, arith}
+use Rattle.std.proofs.Common.{◌≡◌, ◌<◌, ℕ, true, map, length, get_or, refl, ap, sym, subst, ◌∙◌, arith}
 use Rattle.adj_tree.specs.View.{declaration_of}
 use Rattle.adj_interp_frame.specs.Instructed.{steps_in, AreStepsBelow}
 use Rattle.adj_interp_frame.specs.Numbered.{Extends}
 use Rattle.adj_interp_frame.specs.Declaring.{Declares}
+use Rattle.adj_interp_frame.specs.declared.layout.Layout.{Layout}
+use Rattle.adj_interp_frame.specs.declared.layout.Layout.TheVariants as layout
 use Rattle.adj_interp_frame.proofs.Resolving.{extends_self, extends_on}
 use Rattle.adj_interp_frame.proofs.Declarations.{laid_out}
 use Rattle.adj_interp_frame.proofs.Failing.{err_is}
@@ -23,10 +25,11 @@ returns-clause-routine c =
     let most = c.in_ok-names.ensures.few (length ms) (omega arith) (omega (arith, few, more)) in
     let named = ap length same in
     record {
-      laid = laid_out (record { unit = c.args.unit; names = c.in_ok-names.names; layouts = c.listed.new.layouts; writes = c.args.writes; body = c.in_ok-body.body }) c.layouts.new.names c.in_ok-layouts.layouts.items c.in_ok-names.ensures.apart
+      laid = laid_out (record { unit = c.args.unit; names = c.in_ok-names.names; layouts = c.listed.new.layouts; is_plain = c.are_scalars-is_plain.result; writes = c.args.writes; body = c.in_ok-body.body }) c.layouts.new.names c.in_ok-layouts.layouts.items c.in_ok-names.ensures.apart
           (subst (λ ns. Extends c.args.unit.now.dummies ns) (sym same) (subst (λ ns. Extends ns ms) first (extends_on _ _ _ e1 e2)))
           (subst (λ ns. Extends c.layouts.new.names ns) (sym same) e2)
-          d c.in_ok-names.ensures.same (omega (arith, named, longer, most));
+          d c.in_ok-names.ensures.same (omega (arith, named, longer, most))
+          (subst (λ ls. c.are_scalars-is_plain.result ≡ true → (i : ℕ) (l : Layout) → i < length ls → get_or ls i l ≡ layout.Scalar) c.as_slice-2.ensures.value c.are_scalars-is_plain.ensures);
       body = ap (λ ns. steps_in ns c.in_ok-body.body) same ∙ k.stands_for ms (extends_self ms);
       below = subst (λ ns. AreStepsBelow (length ns) c.in_ok-body.body) (sym same) (k.below ms (extends_self ms));
       linked = c.in_ok-body.ensures.linked;

@@ -1,4 +1,4 @@
-use Rattle.std.proofs.Common.{rules, ◌≡◌, ◌<◌, length, get_or, refl, sym, ap, subst, ◌∙◌, arith}
+use Rattle.std.proofs.Common.{rules, ◌≡◌, ◌<◌, length, refl, sym, ap, subst, ◌∙◌, arith}
 use Rattle.std.specs.Prelude.{slice_get, Some}
 use Rattle.std.proofs.Math.ListN.{length-set}
 use Rattle.adj_interp_frame.specs.declared.actual.Actual.TheVariants as actual
@@ -24,7 +24,6 @@ loop-i-preserved g c =
     let k = c.in-Var.variable in
     let lt : i < length r.unit.now.dummies = search rules in
     let there = dummy_there r l i lt in
-    let is_scalar : get_or r.layouts.items i c.index.result.now ≡ layout.Scalar = sym c.index.ensures ∙ c.if-not-hold_scalar.ensures.extents refl in
     let many = inv.many in
     let each = c.requires.many in
     let within : i < length slots = omega (arith, there, many, each) in
@@ -41,6 +40,6 @@ loop-i-preserved g c =
       rest = rw c.deref-current.ensures next.2;
       whole = rw c.deref-current.ensures (λ z. whole (subst IsWhole (sym var) tt, z));
       passed = set_each (IsPassed g.N.Number.numbers r names vs all) slots c.hold_scalar.new.slot i within inv.passed
-          (scalar_passed g.N.Number.numbers r l names vs all i c.index.result.now there is_scalar c.hold_scalar.new.slot c.first_of-number.result (c.if-not-hold_scalar.ensures.shape refl) (c.if-not-hold_scalar.ensures.cells refl)
+          (scalar_passed g.N.Number.numbers r l names vs all i layout.Scalar there (l.scalars c.requires.plain i layout.Scalar there) c.hold_scalar.new.slot c.first_of-number.result (c.if-not-hold_scalar.ensures.shape refl) (c.if-not-hold_scalar.ensures.cells refl)
           (λ shape s h. c.first_of-number.ensures shape s h ∙ sym (given_cells g.N.Number.numbers r l names shape s all i there (actual.Whole k) 0 given)));
     }

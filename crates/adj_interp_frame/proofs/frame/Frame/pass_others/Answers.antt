@@ -1,4 +1,4 @@
-use Rattle.std.proofs.Common.{rules, ◌≡◌, ◌<◌, ◌≤◌, length, get_or, refl, sym, ◌∙◌, arith}
+use Rattle.std.proofs.Common.{rules, ◌<◌, ◌≤◌, length, refl, sym, ◌∙◌, arith}
 use Rattle.std.proofs.Math.ListN.{length-set}
 use Rattle.std.proofs.lemmas.List.{get_or-set_other}
 use Rattle.adj_interp_frame.specs.declared.layout.Layout.TheVariants as layout
@@ -22,10 +22,9 @@ loop-i-preserved g c =
     let each = c.requires.many in
     let within : i < length slots = search rules in
     let there : i < length r.names = omega (arith, within, many, each) in
-    let is_scalar : get_or r.layouts.items i c.index.result.now ≡ layout.Scalar = sym c.index.ensures ∙ c.if-not-hold_scalar.ensures.extents refl in
     let past : length r.unit.now.dummies ≤ i = search rules in
     let none = given_past (length r.unit.now.dummies) all i past in
-    let here = scalar_passed g.N.Number.numbers r l names vs all i c.index.result.now there is_scalar v c.of_word.result (c.if-not-hold_scalar.ensures.shape refl) (c.if-not-hold_scalar.ensures.cells refl)
+    let here = scalar_passed g.N.Number.numbers r l names vs all i layout.Scalar there (l.scalars c.requires.plain i layout.Scalar there) v c.of_word.result (c.if-not-hold_scalar.ensures.shape refl) (c.if-not-hold_scalar.ensures.cells refl)
     (λ shape s h. c.of_word.ensures ∙ sym (none_cells g.N.Number.numbers r l names shape s all i there 0 none)) in
     record {
       many = length-set slots i v ∙ inv.many;
