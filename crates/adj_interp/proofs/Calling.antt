@@ -388,7 +388,7 @@ module _ {C : Type 0} {numbers : Numbers C} where
 module _ {C : Type 0} {numbers : Numbers C} where
   -- a machine that went into a unit has its first scene in hand
   pub went_in : (e : Entry numbers) (m m1 m2 : Machine C) (first f : Frame C) (l : ℕ) (s : Scene C) (shape : Var → Shape) (t : Store C) (name : List ℕ) (shapes : List Shape)
-      → m1 ≡ record m { tally = m1.tally } → m1.tally ≡ with_event m.tally (Enter name (suc m.level) (length m.tape.words) shapes) → l ≡ suc m.level → m2 ≡ record m1 { frame = first; base = length m1.tally.begun; level = l; cursor = None }
+      → m1 ≡ record m { tally = m1.tally } → m1.tally ≡ with_event m.tally (Enter name (suc m.level) (length m.tape.words) shapes) → l ≡ suc m.level → m2 ≡ record m1 { frame = first; base = length m1.tally.begun; level = l }
       → Holds e m s → Shows numbers f.names.now f.slots.items shape t
       → Holds (inside e shape (length m.tally.begun)) (record m2 { frame = f }) (record { store = t; tape = s.tape; opened = 0; events = Enter name (suc e.level) (length s.tape) shapes ∷ s.events })
   went_in e m m1 m2 first f l s shape t name shapes same counted one into h q =

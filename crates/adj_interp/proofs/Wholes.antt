@@ -73,7 +73,7 @@ module _ {C : Type 0} where
 module _ {C : Type 0} {numbers : Numbers C} (rs : List Routine) (number : ℕ) (r : Routine) (lt : number < length rs) (is : r ≡ get_or rs number r) (k : IsRoutine (units_in rs) r) (es : Terms) (slots : List (Slot C)) (m m1 m2 : Machine C) (first : Frame C) (l : ℕ)
     (p : ArePassed numbers r m.frame.names.now m.frame.slots.items es slots)
     (same : m1 ≡ record m { tally = m1.tally }) (told : (name : List ℕ) (shapes : List Shape) → m1.tally ≡ with_event m.tally (Enter name (suc m.level) (length m.tape.words) shapes)) (one : l ≡ suc m.level)
-    (into : m2 ≡ record m1 { frame = first; base = length m1.tally.begun; level = l; cursor = None }) (named : first.names.now ≡ r.names) (filled : first.slots.items ≡ slots) where
+    (into : m2 ≡ record m1 { frame = first; base = length m1.tally.begun; level = l }) (named : first.names.now ≡ r.names) (filled : first.slots.items ≡ slots) where
   abbrev all : List (CodeActual C)
   all = wholes es
 
@@ -114,8 +114,8 @@ module _ {C : Type 0} {numbers : Numbers C} (rs : List Routine) (number : ℕ) (
       as_large numbers r k.laid names m.frame.slots.items m2.frame.slots.items all f framed (whole_below m.frame.slots.items es p.whole (subst (λ n. AreTermsBelow n es) f.each below)) (p.fits shape held (shows_itself numbers names m.frame.slots.items)) shown got
 
   module _ (depth : ℕ) (name : List ℕ) (deep : 0 < depth) (found : find_unit (units_in rs) name ≡ slice_get (units_in rs) number) (line : ℕ) (m3 m4 m5 : Machine C) (o : Outer C)
-      (outer : o ≡ record { frame = m1.frame; base = m1.base; level = m1.level; cursor = m1.cursor })
-      (back : m4 ≡ record m3 { frame = o.frame; base = o.base; level = o.level; cursor = o.cursor }) (last : m5 ≡ record m4 { frame = m5.frame }) (e : Entry numbers) (s : Scene C) (h : Holds e m s) where
+      (outer : o ≡ record { frame = m1.frame; base = m1.base; level = m1.level })
+      (back : m4 ≡ record m3 { frame = o.frame; base = o.base; level = o.level }) (last : m5 ≡ record m4 { frame = m5.frame }) (e : Entry numbers) (s : Scene C) (h : Holds e m s) where
     abbrev q : Calls C
     q = calls_of (units_in rs) (depth - 1)
 

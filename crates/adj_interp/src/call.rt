@@ -20,7 +20,6 @@ ghost use Rattle.adj_interp.specs.Tallied.{with_event};
 ghost use Rattle.adj_interp.specs.Held.{Entry, Holds};
 ghost use Rattle.adj_interp.specs.Entered.{Gets, IsMisfit, inside};
 
-use crate::cursor::Cursor;
 use crate::machine::Machine;
 use crate::stop::Stop;
 use adj_interp_frame::{Actual, Frame, Routine, Slot, Term, Terms, Unfit};
@@ -34,7 +33,6 @@ pub(crate) struct Outer<'a, N: Number> {
     pub frame: Frame<'a, N>,
     pub base: usize,
     pub level: u64,
-    pub cursor: Option<Box<Cursor>>,
 }
 
 // Puts an actual behind the first ones of a list, in place of what stands there; gives how many there are then.
@@ -178,15 +176,14 @@ impl<'a, N: Number> Machine<'a, N> {
     /// Goes into a unit whose entry was counted, with its slots; gives what the caller has in hand.
     #[inline(always)]
     pub(crate) fn step_in(&mut self, frame: Frame<'a, N>, level: u64) -> Outer<'a, N>
-        ensures outer { result ≡ record { frame = self.old.frame; base = self.old.base; level = self.old.level; cursor = self.old.cursor } }
-        ensures into { self.new ≡ record self.old { frame = frame.entry; base = length self.old.tally.begun; level = level; cursor = None } }
+        ensures outer { result ≡ record { frame = self.old.frame; base = self.old.base; level = self.old.level } }
+        ensures into { self.new ≡ record self.old { frame = frame.entry; base = length self.old.tally.begun; level = level } }
     {
         let open = self.tally.open();
         Outer {
             frame: mem::replace(&mut self.frame, frame),
             base: mem::replace(&mut self.base, open),
             level: mem::replace(&mut self.level, level),
-            cursor: self.cursor.take(),
         }
     }
 
@@ -205,7 +202,7 @@ impl<'a, N: Number> Machine<'a, N> {
         ensures names { OnOk result (self.new.frame.names.now ≡ frame.entry.names.now) }
         ensures filled { OnOk result ((r : ARoutine) → AreLent r actuals.now frame.entry.slots.items → AreFilled self.old.frame.slots.items actuals.now frame.entry.slots.items self.new.frame.slots.items) }
         ensures left { OnOk result (self.new.left ≡ self.old.left) }
-        ensures outer { IfOk result (λ o. o ≡ record { frame = o.frame; base = self.old.base; level = self.old.level; cursor = self.old.cursor }) }
+        ensures outer { IfOk result (λ o. o ≡ record { frame = o.frame; base = self.old.base; level = self.old.level }) }
         ensures caller { IfOk result (λ o. o.frame.names.now ≡ self.old.frame.names.now) }
         ensures lent { IfOk result (λ o. (r : ARoutine) → AreLent r actuals.now frame.entry.slots.items → HaveLent r actuals.now self.old.frame.slots.items o.frame.slots.items) }
         ensures room { self.new.tape.room ≡ self.old.tape.room }
@@ -224,12 +221,11 @@ impl<'a, N: Number> Machine<'a, N> {
     pub(crate) fn leave(&mut self, outer: Outer<'a, N>) -> (Frame<'a, N>, bool)
         ensures frame { result.0 ≡ self.old.frame }
         ensures closed { result.1 ≡ (length self.old.tally.begun == self.old.base) }
-        ensures back { self.new ≡ record self.old { frame = outer.entry.frame; base = outer.entry.base; level = outer.entry.level; cursor = outer.entry.cursor } }
+        ensures back { self.new ≡ record self.old { frame = outer.entry.frame; base = outer.entry.base; level = outer.entry.level } }
     {
         let is_closed = self.tally.open() == self.base;
         self.base = outer.base;
         self.level = outer.level;
-        self.cursor = outer.cursor;
         (mem::replace(&mut self.frame, outer.frame), is_closed)
     }
 

@@ -10,6 +10,7 @@ ghost use Rattle.def_meaning.specs.Written.{find_unit};
 ghost use Rattle.def_meaning.specs.Run.{Calls, act, run, turns, with_turn, stepped, tests, most_tests};
 ghost use Rattle.adj_interp_frame.specs.declared.slot.Slot.{Slot};
 ghost use Rattle.adj_interp_frame.specs.declared.routine.Routine.{Routine as ARoutine};
+ghost use Rattle.adj_interp_frame.specs.declared.step.Task.TheVariants as task;
 ghost use Rattle.adj_interp_frame.specs.Prepared.{var_at, term_in, test_in, terms_in, IsTermBelow, AreTermsBelow, IsTestBelow};
 ghost use Rattle.adj_interp_frame.specs.Instructed.{task_in, steps_in, marking_in, IsCellBelow, AreBoundsBelow, IsTaskBelow, AreStepsBelow};
 ghost use Rattle.adj_interp_frame.specs.Linked.{IsTaskLinked, AreLinked, units_in, AreRoutines};
@@ -33,7 +34,7 @@ use adj_word::add;
 use std::alloc::Global;
 
 /// What a run has in hand: the entry of the unit that runs, how many reversals were open when it began, its level, the
-/// tape, the statements that are left, what was counted, the schedule that the entry asked last, the actuals of the call that ended last, and for each unit the slots of its last call.
+/// tape, the statements that are left, what was counted, the schedule that was asked last, the actuals of the call that ended last, and for each unit the slots of its last call.
 #[derive(Drop)]
 pub struct Machine<'a, N: Number> {
     pub frame: Frame<'a, N>,
@@ -73,6 +74,16 @@ impl<'a, N: Number> Machine<'a, N> {
         ensures value { (e : Entry N.numbers) (s : Scene N) → Holds e self.now s → Finds line (value (setting_at e) (term_in self.now.frame.names.now term.now) s.store) result }
     {
         at_line(self.frame.value(term), line)
+    }
+
+    // The value that an assignment in a statement at a line gives.
+    #[inline(always)]
+    fn assigned(&self, term: &Term, line: u32) -> Result<N, Stop>
+        requires framed { IsFrame self.now.frame.names.now self.now.frame.slots.items }
+        requires below { IsTermBelow (length self.now.frame.names.now) term.now }
+        ensures value { (e : Entry N.numbers) (s : Scene N) → Holds e self.now s → Finds line (value (setting_at e) (term_in self.now.frame.names.now term.now) s.store) result }
+    {
+        at_line(self.frame.evaluate(term), line)
     }
 
     // Whether a condition holds.
@@ -214,7 +225,7 @@ impl<'a, N: Number> Machine<'a, N> {
     {
         match task {
             Task::Assign(cell, term) => {
-                let number = self.value(term, line)?;
+                let number = self.assigned(term, line)?;
                 let place = self.target(cell, line)?;
                 self.put(cell.variable, place, number);
                 Ok(())
@@ -227,18 +238,44 @@ impl<'a, N: Number> Machine<'a, N> {
                 }
             }
             Task::Loop(variable, bounds, body, marking) => {
-                let (first, by, turns) = self.bounds(bounds, marking, line)?;
-                self.turn(*variable, first);
-                let course = Course {
-                    variable: *variable,
-                    by,
-                };
-                self.turns(program, depth, &course, turns, body)
+                self.repeat(program, depth, *variable, bounds, marking, body, line)
             }
             Task::While(test, body) => self.tests(program, depth, body, test, line),
             Task::Run(service) => self.serve(service, line),
             Task::Call(number, _name, terms) => self.call(program, depth, *number, terms, line),
         }
+    }
+
+    // Does a DO.
+    #[inline(never)]
+    #[cycle(run)]
+    fn repeat(
+        &mut self,
+        program: &'a [Routine<'a>],
+        depth: u64,
+        variable: usize,
+        bounds: &Bounds,
+        marking: &Marking,
+        body: &Steps,
+        line: u32,
+    ) -> Result<(), Stop>
+        requires framed { IsFrame self.old.frame.names.now self.old.frame.slots.items }
+        requires there { variable < length self.old.frame.names.now }
+        requires bounds { AreBoundsBelow (length self.old.frame.names.now) bounds.now }
+        requires below { AreStepsBelow (length self.old.frame.names.now) body.now }
+        requires program { AreRoutines program.now }
+        requires linked { AreLinked (units_in program.now) body.now }
+        requires suited { AreSuited (units_in program.now) (OneCelled self.old) (steps_in self.old.frame.names.now body.now) }
+        ensures names { self.new.frame.names.now ≡ self.old.frame.names.now }
+        ensures framed { IsFrame self.old.frame.names.now self.new.frame.slots.items }
+        ensures counts { counts_in self.new.frame.slots.items ≡ counts_in self.old.frame.slots.items }
+        ensures room { self.new.tape.room ≡ self.old.tape.room }
+        ensures ends { let q : Calls N = calls_of (units_in program.now) depth in (e : Entry N.numbers) (s : Scene N) → Holds e self.old s → Ends e (act q (setting_at e) (task_in self.old.frame.names.now (task.Loop variable bounds.now body.now marking.now)) line s) self.old.left result self.new }
+    {
+        let (first, by, turns) = self.bounds(bounds, marking, line)?;
+        self.turn(variable, first);
+        let course = Course { variable, by };
+        self.turns(program, depth, &course, turns, body)
     }
 
     // Does a call of the unit of a number, where calls may go so deep.

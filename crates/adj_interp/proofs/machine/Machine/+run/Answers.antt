@@ -172,44 +172,46 @@ perform-returns-in_err-holds-in-If-clause-ends g t c e s h =
     let r : c.from_residual-in_err-holds-in-If.result ≡ Err c.in_err-holds-in-If.field-0.0 = search rules in
     rw (c.in-If.is, r) (ends_err e _ c.args.line c.in_err-holds-in-If.field-0.0 c.args.self.now s _ (c.in_err-holds-in-If.ensures.holds e s h) h)
 
-pub perform-returns-in_err-first-in-Loop-clause-ends : goal.perform-returns-in_err-first-in-Loop-clause-ends
-perform-returns-in_err-first-in-Loop-clause-ends g t c e s h =
-    let q = calls_of {C = g.row.N.Denot} (units_in c.args.program.now) c.args.depth in
-    let names = c.args.self.now.frame.names.now in
-    let b = c.in-Loop.bounds in
-    let n = setting_at e in
-    let mark = marking_in names c.in-Loop.marking in
-    let x = c.in_err-first-in-Loop.field-0.0 in
-    let at = var_at names c.in-Loop.variable in
-    let r : c.from_residual-in_err-first-in-Loop.result ≡ Err c.in_err-first-in-Loop.field-0.0 = search rules in
-    let go : ℤ → ℤ → ℕ → Runs g.row.N.Denot = λ u z i k. then_do (turns n i (run q n (steps_in names c.in-Loop.body)) (stepped n at z) (with_turn n at (wrap u) s) k) (λ s1 j. Done (after_loop c.args.line i (in_force n mark s.store) s1) j) in
-    let found = bounds_in n (term_in names b.first) (term_in names b.last) (term_in names b.by) mark s.store in
-    rw (c.in-Loop.is, r)
-    (ends_same e (λ k. with_value found c.args.line (stand n s) (λ p. go p.0 p.1 p.2 k)) _ c.args.self.now.left (Err x) c.args.self.now (λ k. bounds_chain n (term_in names b.first) (term_in names b.last) (term_in names b.by) mark s.store c.args.line (stand n s) (λ u z i. go u z i k))
-    (ends_err e found c.args.line x c.args.self.now s (λ (p : ℤ × ℤ × ℕ). go p.0 p.1 p.2) (c.in_err-first-in-Loop.ensures.bounds e s h) h))
+pub perform-returns-in-Loop-clause-ends : goal.perform-returns-in-Loop-clause-ends
+perform-returns-in-Loop-clause-ends g t c e s h = rw c.in-Loop.is (c.repeat.ensures.ends e s h)
 
-pub perform-returns-in_ok-first-in-Loop-clause-ends : goal.perform-returns-in_ok-first-in-Loop-clause-ends
-perform-returns-in_ok-first-in-Loop-clause-ends g t c e s h =
+pub repeat-returns-in_err-first-clause-ends : goal.repeat-returns-in_err-first-clause-ends
+repeat-returns-in_err-first-clause-ends g t c e s h =
     let q = calls_of {C = g.row.N.Denot} (units_in c.args.program.now) c.args.depth in
     let names = c.args.self.now.frame.names.now in
-    let b = c.in-Loop.bounds in
+    let b = c.args.bounds.now in
     let n = setting_at e in
-    let mark = marking_in names c.in-Loop.marking in
-    let at = var_at names c.in-Loop.variable in
-    let first = c.in_ok-first-in-Loop.first in
-    let by = c.in_ok-first-in-Loop.by in
-    let count = c.in_ok-first-in-Loop.turns in
-    let fits : FitsSigned w64 c.in_ok-first-in-Loop.first = search rules in
-    let fits_by : FitsSigned w64 c.in_ok-first-in-Loop.by = search rules in
+    let mark = marking_in names c.args.marking.now in
+    let x = c.in_err-first.field-0.0 in
+    let at = var_at names c.args.variable in
+    let r : c.from_residual.result ≡ Err c.in_err-first.field-0.0 = search rules in
+    let go : ℤ → ℤ → ℕ → Runs g.row.N.Denot = λ u z i k. then_do (turns n i (run q n (steps_in names c.args.body.now)) (stepped n at z) (with_turn n at (wrap u) s) k) (λ s1 j. Done (after_loop c.args.line i (in_force n mark s.store) s1) j) in
+    let found = bounds_in n (term_in names b.first) (term_in names b.last) (term_in names b.by) mark s.store in
+    rw r
+    (ends_same e (λ k. with_value found c.args.line (stand n s) (λ p. go p.0 p.1 p.2 k)) _ c.args.self.now.left (Err x) c.args.self.now (λ k. bounds_chain n (term_in names b.first) (term_in names b.last) (term_in names b.by) mark s.store c.args.line (stand n s) (λ u z i. go u z i k))
+    (ends_err e found c.args.line x c.args.self.now s (λ (p : ℤ × ℤ × ℕ). go p.0 p.1 p.2) (c.in_err-first.ensures.bounds e s h) h))
+
+pub repeat-returns-clause-ends : goal.repeat-returns-clause-ends
+repeat-returns-clause-ends g t c e s h =
+    let q = calls_of {C = g.row.N.Denot} (units_in c.args.program.now) c.args.depth in
+    let names = c.args.self.now.frame.names.now in
+    let b = c.args.bounds.now in
+    let n = setting_at e in
+    let mark = marking_in names c.args.marking.now in
+    let at = var_at names c.args.variable in
+    let first = c.in_ok-first.first in
+    let by = c.in_ok-first.by in
+    let count = c.in_ok-first.turns in
+    let fits : FitsSigned w64 c.in_ok-first.first = search rules in
+    let fits_by : FitsSigned w64 c.in_ok-first.by = search rules in
     let bys = to_z-of_z w64 by fits_by in
     let word = to_z-of_z w64 first fits ∙ sym (wrap_word first fits) in
-    let go : ℤ → ℤ → ℕ → Runs g.row.N.Denot = λ u z i k. then_do (turns n i (run q n (steps_in names c.in-Loop.body)) (stepped n at z) (with_turn n at (wrap u) s) k) (λ s1 j. Done (after_loop c.args.line i (in_force n mark s.store) s1) j) in
+    let go : ℤ → ℤ → ℕ → Runs g.row.N.Denot = λ u z i k. then_do (turns n i (run q n (steps_in names c.args.body.now)) (stepped n at z) (with_turn n at (wrap u) s) k) (λ s1 j. Done (after_loop c.args.line i (in_force n mark s.store) s1) j) in
     let found = bounds_in n (term_in names b.first) (term_in names b.last) (term_in names b.by) mark s.store in
-    let done = subst (λ z. z) (λ i. Ends e (turns n count (run q n (steps_in (c.turn.ensures.names i) c.in-Loop.body)) (stepped n (var_at (c.turn.ensures.names i) c.in-Loop.variable) (bys i)) (with_turn n at (word i) s)) (c.turn.ensures.left i) c.turns.result c.turns.new.self)
+    let done = subst (λ z. z) (λ i. Ends e (turns n count (run q n (steps_in (c.turn.ensures.names i) c.args.body.now)) (stepped n (var_at (c.turn.ensures.names i) c.args.variable) (bys i)) (with_turn n at (word i) s)) (c.turn.ensures.left i) c.turns.result c.turns.new.self)
     (c.turns.ensures.ends e _ (c.turn.ensures.holds e s h)) in
-    rw c.in-Loop.is
     (ends_same e (λ k. with_value found c.args.line (stand n s) (λ p. go p.0 p.1 p.2 k)) _ c.args.self.now.left c.turns.result c.turns.new.self (λ k. bounds_chain n (term_in names b.first) (term_in names b.last) (term_in names b.by) mark s.store c.args.line (stand n s) (λ u z i. go u z i k))
-    (ends_ok e found c.args.line (first, by, count) (stand n s) (λ (p : ℤ × ℤ × ℕ). go p.0 p.1 p.2) c.args.self.now.left c.turns.result c.turns.new.self (c.in_ok-first-in-Loop.ensures.bounds e s h)
+    (ends_ok e found c.args.line (first, by, count) (stand n s) (λ (p : ℤ × ℤ × ℕ). go p.0 p.1 p.2) c.args.self.now.left c.turns.result c.turns.new.self (c.in_ok-first.ensures.bounds e s h)
     (ends_loop e _ c.args.self.now.left c.args.line count (in_force n mark s.store) c.turns.result c.turns.new.self done)))
 
 pub perform-returns-in-Run-clause-ends : goal.perform-returns-in-Run-clause-ends

@@ -66,6 +66,9 @@ decreases-run g l = l.depth * suc (2 * all_sizes l.program.now) + 2 * goal.size-
 abbrev pub decreases-perform : goal.decreases-perform
 decreases-perform g l = l.depth * suc (2 * all_sizes l.program.now) + (2 * goal.size-perform g l + 2)
 
+abbrev pub decreases-repeat : goal.decreases-repeat
+decreases-repeat g l = l.depth * suc (2 * all_sizes l.program.now) + (2 * goal.size-repeat g l + 2)
+
 abbrev pub decreases-turns : goal.decreases-turns
 decreases-turns g l = l.depth * suc (2 * all_sizes l.program.now) + (2 * goal.size-turns g l + 1)
 
