@@ -19,6 +19,8 @@ use Rattle.def_names.specs.HeadFaults.{first_head_fault, flags_found, unit_numbe
 use Rattle.def_names.specs.Variables.{variables}
 use Rattle.def_sweep.specs.MarkedAdjoint.{shadow_flags}
 use Rattle.def_sweep.specs.Marking.{ProgramMarks}
+use Rattle.def_sweep.specs.Names.{adjoint_name}
+use Rattle.def_sweep.specs.Reversals.{ReversedLines}
 use Rattle.law_emitted.specs.Shadowed.{AllHaveShadows}
 use Rattle.def_kernel.specs.Kernel.{EachUnit}
 use Rattle.def_adjoint.specs.KernelShape.{HasKernelShape}
@@ -45,13 +47,22 @@ use Rattle.adj_tool_check.specs.Emitted as checking
 use Rattle.adj_tool_check.specs.Emitted.{IsRunnable, read_back}
 use Rattle.adj_tool_check.specs.Agreeing.{AreAdjoint, Agrees, CheckAgrees, CheckTraps}
 use Rattle.adj_tool_check.proofs.Readings.{alike_read}
-use Rattle.adj_tool.specs.Check.{AreSides, IsReadBack, IsChecked, IsCompared}
+use Rattle.adj_tool.specs.Check.{AreSides, IsChecked, IsCompared}
+use Rattle.adj_tool.specs.Exactly.{IsReadBack, RunsWritten}
 use Rattle.adj_tool.specs.Headline.{RunsAdjoint}
 use Rattle.adj_tool.proofs.Runs.{has_shape, runs_adjoint}
 use Rattle.adj_tool.specs.Fitting.{most_numbered, kernel_fits}
 use Rattle.adj_tool.specs.Headline.{IsUnit, flags_of}
 use Rattle.adj_tool.specs.Planned.{IsKnownFor, AreExact}
 use Rattle.adj_tool.proofs.Heads.{head_there, few_variables, fits_widest}
+
+-- the adjoint of a head in a program is one unit, whichever names are asked for
+one_adjoint : (ps : List Procedure) (name : List ℕ) (qs : List Procedure) (lines : ReversedLines) (m : ProgramMarks) (vars outvars others outothers : List Bool) (x : IsAdjointOf lines m ps name vars outvars qs) (y : IsAdjointOf lines m ps name others outothers qs) → x.adjoint ≡ y.adjoint
+one_adjoint ps name qs lines m vars outvars others outothers x y =
+    let kernels : Some x.kernel ≡ Some y.kernel = sym x.becomes ∙ y.becomes in
+    let same : x.kernel ≡ y.kernel = cc in
+    let adjoints : Some x.adjoint ≡ Some y.adjoint = sym x.is_there ∙ ap (λ k. find_unit qs (adjoint_name (kernel_of ps) k)) same ∙ y.is_there in
+    cc
 
 module _ (lines : List ℕ) (ps : List Procedure) (name : List ℕ) (h : Head) (accepted : IsAccepted ps) (qs : List Procedure) (adjoint : List ℕ) (shadowed : List Bool)
     (known : IsKnownFor lines (kernel_of ps) (record { unit = unit_number (kernel_of ps) name; vars = h.vars; outvars = h.outvars }) qs adjoint shadowed) where
@@ -110,8 +121,11 @@ module _ (lines : List ℕ) (ps : List Procedure) (name : List ℕ) (h : Head) (
 
     -- both sides, and what holds of them
     module _ (runnable : IsRunnable qs) where
+      abbrev pub runs_back : RunsAdjoint lines m ps name h.vars h.outvars (read_back qs)
+      runs_back = runs_for (read_back qs) (alike_read qs runnable)
+
       abbrev back : IsAdjointOf (lines_by ps m) m ps name h.vars h.outvars (read_back qs)
-      back = adjoins (read_back qs) (alike_read qs runnable)
+      back = runs_back.adjoins
 
       abbrev sides : Sides
       sides = record { source = ps; head = u; vars = h.vars; outvars = h.outvars; emitted = read_back qs; adjoint = back.adjoint; shadowed = shadowed }
@@ -120,20 +134,23 @@ module _ (lines : List ℕ) (ps : List Procedure) (name : List ℕ) (h : Head) (
       pub adjoint_there : find_unit (read_back qs) adjoint ≡ Some back.adjoint
       adjoint_there = ap (find_unit (read_back qs)) (known.named back.kernel (numbered (kernel_of ps) name back.kernel back.becomes)) ∙ back.is_there
 
-      abbrev pub are_sides : ProgramTold → AreSides lines ps name h sides
-      are_sides told = record {
+      abbrev pub are_sides : AreSides lines ps name h sides
+      are_sides = record {
         source = refl;
         is_head = found;
         vars = refl;
         outvars = refl;
         marks = m;
         exact = exact;
-        emitted = let planned = reversed_for ps name h.vars h.outvars m in record { found = program_of Run (text_of planned); is = told Run (text_of planned); such = ap read_back known.emitted.emitted };
-        kernel = back.kernel;
-        becomes = back.becomes;
-        is_there = back.is_there;
+        runs = runs_back;
+        shape = shape_for (read_back qs) (alike_read qs runnable);
+        adjoint = refl;
         shadows = shadows_are u found;
       }
+
+      -- what is run is what is emitted, printed and read back
+      pub is_read_back : ProgramTold → IsReadBack (reversed_for ps name h.vars h.outvars m) (read_back qs)
+      is_read_back told = let planned = reversed_for ps name h.vars h.outvars m in record { found = program_of Run (text_of planned); is = told Run (text_of planned); such = ap read_back known.emitted.emitted }
 
       same_head : u ≡ back.unit
       same_head = let both : Some u ≡ Some back.unit = sym found ∙ back.is_head in cc
@@ -183,7 +200,7 @@ module _ (ps : List Procedure) (name : List ℕ) (vars outvars : List (List ℕ)
 -- ---- the answer to data
 
 module _ (r : Asked) (vars outvars : List (List ℕ)) (lines : List ℕ) (ps : List Procedure) (accepted : IsAccepted ps) (clean : IsSound run_rules ps) (apart : AreLinesApart (program_lines ps)) (sound : first_head_fault ps r.head vars outvars ≡ None) (h : Head) (is : h ≡ head_of ps r.head vars outvars)
-    (qs : List Procedure) (adjoint : List ℕ) (shadowed : List Bool) (known : IsKnownFor lines (kernel_of ps) (record { unit = unit_number (kernel_of ps) r.head; vars = h.vars; outvars = h.outvars }) qs adjoint shadowed) (runnable : IsRunnable qs) (told : ProgramTold) where
+    (qs : List Procedure) (adjoint : List ℕ) (shadowed : List Bool) (known : IsKnownFor lines (kernel_of ps) (record { unit = unit_number (kernel_of ps) r.head; vars = h.vars; outvars = h.outvars }) qs adjoint shadowed) (runnable : IsRunnable qs) where
   abbrev head : IsUnit ps r.head
   head = there ps r.head vars outvars sound h is
 
@@ -191,7 +208,7 @@ module _ (r : Asked) (vars outvars : List (List ℕ)) (lines : List ℕ) (ps : L
   both = sides lines ps r.head h accepted qs adjoint shadowed known apart head.unit head.found runnable
 
   abbrev are_both : AreSides lines ps r.head h both
-  are_both = are_sides lines ps r.head h accepted qs adjoint shadowed known apart head.unit head.found runnable told
+  are_both = are_sides lines ps r.head h accepted qs adjoint shadowed known apart head.unit head.found runnable
 
   both_adjoint : AreAdjoint both
   both_adjoint =
@@ -199,14 +216,15 @@ module _ (r : Asked) (vars outvars : List (List ℕ)) (lines : List ℕ) (ps : L
       are_adjoint lines ps r.head h accepted qs adjoint shadowed known apart head.unit head.found runnable (sized ps accepted.written clean h.unit head.unit at)
       (many_vars ps r.head vars outvars sound h is head.unit at) (many_outvars ps r.head vars outvars sound h is head.unit at)
 
-  runs_both : RunsAdjoint lines are_both.marks ps r.head h.vars h.outvars (read_back qs)
-  runs_both = runs_for lines ps r.head h accepted qs adjoint shadowed known apart head.unit head.found (read_back qs) (alike_read qs runnable)
-
-  shape_both : HasKernelShape true are_both.marks ps r.head h.vars h.outvars (read_back qs)
-  shape_both = shape_for lines ps r.head h accepted qs adjoint shadowed known apart head.unit head.found (read_back qs) (alike_read qs runnable)
-
   pub is_checked : CheckTraps → (bytes : List ℕ) (a : Answer) → a ≡ check_answer r both bytes → IsChecked lines ps h r bytes a
-  is_checked law bytes a same = record { sides = both; are_sides = are_both; runs = runs_both; shape = shape_both; is = same; traps = law r both both_adjoint bytes }
+  is_checked law bytes a same = record { sides = both; are_sides = are_both; is = same; traps = law r both both_adjoint bytes }
+
+  pub runs_written : CheckTraps → ProgramTold → (bytes : List ℕ) (a : Answer) → a ≡ check_answer r both bytes → RunsWritten lines ps h r bytes a
+  unfolding is_checked
+  runs_written law told bytes a same = record { checked = is_checked law bytes a same; emitted = is_read_back lines ps r.head h accepted qs adjoint shadowed known apart head.unit head.found runnable told }
+
+  runs_asked : RunsAdjoint lines are_both.marks ps r.head (head_of ps r.head vars outvars).vars (head_of ps r.head vars outvars).outvars both.emitted
+  runs_asked = subst (λ (z : Head). RunsAdjoint lines are_both.marks ps r.head z.vars z.outvars both.emitted) is are_both.runs
 
   -- by the names that were asked for
   abbrev are_asked : AreSides lines ps r.head (head_of ps r.head vars outvars) both
@@ -217,22 +235,11 @@ module _ (r : Asked) (vars outvars : List (List ℕ)) (lines : List ℕ) (ps : L
     outvars = ap (λ (z : Head). z.outvars) is;
     marks = are_both.marks;
     exact = subst (λ z. AreExact lines ps r.head z are_both.marks) is are_both.exact;
-    emitted = subst (λ (z : Head). IsReadBack (reversed_for ps r.head z.vars z.outvars are_both.marks) both.emitted) is are_both.emitted;
-    kernel = are_both.kernel;
-    becomes = are_both.becomes;
-    is_there = are_both.is_there;
+    runs = runs_asked;
+    shape = subst (λ (z : Head). HasKernelShape true are_both.marks ps r.head z.vars z.outvars both.emitted) is are_both.shape;
+    adjoint = one_adjoint ps r.head both.emitted (lines_by ps are_both.marks) are_both.marks _ _ _ _ are_both.runs.adjoins runs_asked.adjoins;
     shadows = are_both.shadows;
   }
-
-  runs_asked : RunsAdjoint lines are_both.marks ps r.head (flags_of vars head.unit.dummies) (flags_of outvars head.unit.dummies) (read_back qs)
-  runs_asked =
-      subst (λ v. RunsAdjoint lines are_both.marks ps r.head v (flags_of outvars head.unit.dummies) (read_back qs)) (vars_are ps r.head vars outvars sound h is)
-      (subst (λ v. RunsAdjoint lines are_both.marks ps r.head h.vars v (read_back qs)) (outvars_are ps r.head vars outvars sound h is) runs_both)
-
-  shape_asked : HasKernelShape true are_both.marks ps r.head (flags_of vars head.unit.dummies) (flags_of outvars head.unit.dummies) (read_back qs)
-  shape_asked =
-      subst (λ v. HasKernelShape true are_both.marks ps r.head v (flags_of outvars head.unit.dummies) (read_back qs)) (vars_are ps r.head vars outvars sound h is)
-      (subst (λ v. HasKernelShape true are_both.marks ps r.head h.vars v (read_back qs)) (outvars_are ps r.head vars outvars sound h is) shape_both)
 
   pub is_compared : CheckAgrees → (bytes : List ℕ) (reads : ReadsLowered bytes ps) → KeepsRuns reads.shared → ReadsSplits bytes lines → (a : Answer) → a ≡ check_answer r both bytes → IsCompared r vars outvars bytes a
   unfolding both_adjoint are_adjoint
@@ -244,7 +251,5 @@ module _ (r : Asked) (vars outvars : List (List ℕ)) (lines : List ℕ) (ps : L
     reads_splits = marked;
     sides = both;
     are_sides = are_asked;
-    runs = runs_asked;
-    shape = shape_asked;
     agrees = subst (λ (z : Answer). Agrees r (lines_by ps are_both.marks) both bytes z.text) (sym same) (law r both both_adjoint bytes (ap (λ (z : Answer). z.status) (sym same) ∙ done));
   }

@@ -19,7 +19,7 @@ use Rattle.adj_tool_check.specs.Checking.{Sides, Given, after, compared, dual_ru
 use Rattle.adj_tool_jacobian.specs.Jacobian as jacobian
 use Rattle.adj_tool_jacobian.specs.Jacobian.{TellsDerivative, task_of}
 use Rattle.adj_tool_run.specs.Running as running
-use Rattle.adj_tool_run.specs.Running.{checked_answer, ended, head_answer, input_answer, run_asked, text_answer}
+use Rattle.adj_tool_run.specs.Running.{checked_answer, ended, head_answer, input_answer, text_answer}
 use Rattle.adj_tool.specs.Answer.{most_bytes, AnswersChecked, AnswersFitted, AnswersHeaded, AnswersSized, AnswersText, IsGiven}
 use Rattle.adj_tool.specs.Check.{AnswersAcceptedCheck, AnswersSizedCheck, AnswersSoundCheck, AnswersTextCheck, Fitted, IsChecked, Unrefused}
 use Rattle.adj_tool.specs.Complete.{AreDone, CheckIsDone, JacobianIsDone, RunIsDone, WantedIsDone}
@@ -28,8 +28,8 @@ use Rattle.adj_tool.specs.declared.task.Wanted.TheVariants as wanted
 
 -- the answer that is given for an accepted program
 given_is_done : (w : Wanted) (lines : List ℕ) (ps : List Procedure) (name : List ℕ) (h : Head) (a : Answer) → IsGiven w lines ps name h a → a.status ≡ 0
-given_is_done wanted.Adjoint lines ps name h a g = ap (λ (z : Answer). z.status) g.text
-given_is_done wanted.Tangent lines ps name h a g = ap (λ (z : Answer). z.status) g.text
+given_is_done wanted.Adjoint lines ps name h a g = g
+given_is_done wanted.Tangent lines ps name h a g = g
 given_is_done wanted.Plan lines ps name h a g = ap (λ (z : Answer). z.status) g.text
 
 -- three runs that are done
@@ -49,7 +49,7 @@ module _ (only : ProgramOnly) where
       let s = t.text in
       let ps = s.source in
       let hd = head_of ps r.head r.vars r.outvars in
-      let sized : AnswersSized false w r bytes a = subst (λ b. AnswersSized b w r bytes a) (le-ltb most_bytes (length bytes) s.few) h in
+      let sized : AnswersSized false w r bytes a = subst (λ b. AnswersSized b w r bytes a) (le-ltb most_bytes (length bytes) s.few) h.sized in
       let such : AnswersText w r bytes (Ok ps) a = subst (λ f. AnswersText w r bytes f a) (same_found Source bytes sized.found sized.is ps s.program) sized.such in
       let lines = such.lines in
       let checked : AnswersChecked None w r lines ps a = subst (λ o. AnswersChecked o w r lines ps a) s.sound such.such in
@@ -97,5 +97,5 @@ module _ (only : ProgramOnly) where
       let headed : AnswersAcceptedCheck r bytes lines ps hd a = subst (λ o. Unrefused o (AnswersAcceptedCheck r bytes lines ps hd a) a) t.head checked in
       let is : IsChecked lines ps hd r bytes a = subst (λ b. Fitted b (IsChecked lines ps hd r bytes a) a) t.fits headed in
       let p = is.sides in
-      let held = runs lines such.reads p is.are_sides in
+      let held = runs lines such.reads p is.are_sides is.is in
       ap (λ (z : Answer). z.status) (is.is ∙ ap (λ o. faulty_or o (runs_answer r p (given_of p bytes))) held.0) ∙ runs_are_done r p (given_of p bytes) held.1

@@ -61,8 +61,9 @@ use Rattle.def_refused.specs.TextFaults.{program_of}
 use Rattle.adj_tool_answer.proofs.BlocksKept.{blocks_kept}
 use Rattle.adj_tool.proofs.Runs.{has_shape, runs_adjoint}
 use Rattle.adj_tool.specs.Fitting.{most_numbered, is_numbered, kernel_fits}
-use Rattle.adj_tool.specs.Answer.{most_bytes, IsWritten, IsTangentGiven, IsGiven}
-use Rattle.adj_tool.specs.Headline.{IsUnit, IsCanonical, Rewrites, RunsAdjoint, ReadsFor, ReadsTangent, ReadsWritten, Writes, EmitsAdjoint, EmitsTangent, flags_of}
+use Rattle.adj_tool.specs.Answer.{most_bytes, IsGiven}
+use Rattle.adj_tool.specs.Exactly.{ReadsFor, ReadsTangent, ReadsWritten}
+use Rattle.adj_tool.specs.Headline.{IsUnit, IsCanonical, Rewrites, RunsAdjoint, Writes, EmitsAdjoint, EmitsTangent, flags_of}
 
 -- where the head has no fault, it is there
 pub head_there : (ps : List Procedure) (name : List ℕ) (vars outvars : List (List ℕ)) → first_head_fault ps name vars outvars ≡ None → IsUnit ps name
@@ -238,9 +239,6 @@ module _ (lines : List ℕ) (ps : List Procedure) (name : List ℕ) (h : Head) (
   pub exact_marks : AreExact lines ps name h m
   exact_marks = record { activity = x.activity; liveness = x.liveness; saved = x.saved; held = x.held; analysed = x.analysed; are = refl }
 
-  pub emitted_text : (a : Answer) → a.status ≡ 0 → a.text ≡ text_of qs → IsWritten lines ps name h a
-  emitted_text a done text = record { marks = m; exact = exact_marks; text = (λ i. record { status = done i; text = (text ∙ ap text_of x.emitted) i }) }
-
   pub emitted_reads : kernel_fits (kernel_of ps) ≡ true → (bytes : List ℕ) → bytes ≡ text_of qs → (texts.IsWritten qs → ReadsAs bytes qs) → ReadsWritten lines ps name h bytes
   emitted_reads fits bytes text reads =
       let written : texts.IsWritten qs = subst texts.IsWritten (sym x.emitted) (planned.reversed_written ps accepted name h.vars h.outvars lines x.activity x.liveness x.saved x.held x.analysed) in
@@ -248,9 +246,6 @@ module _ (lines : List ℕ) (ps : List Procedure) (name : List ℕ) (h : Head) (
 
 -- a tangent is written, so that its text reads as it
 module _ (ps : List Procedure) (name : List ℕ) (h : Head) (accepted : IsAccepted ps) (qs : List Procedure) (x : IsTangentEmitted (kernel_of ps) (record { unit = unit_number (kernel_of ps) name; vars = h.vars; outvars = h.outvars }) qs) where
-  pub tangent_text : (a : Answer) → a.status ≡ 0 → a.text ≡ text_of qs → IsTangentGiven ps name h a
-  tangent_text a done text = record { varied = x.varied; carried = x.carried; exact = x.exact; text = (λ i. record { status = done i; text = (text ∙ ap text_of x.emitted) i }) }
-
   pub tangent_reads : kernel_fits (kernel_of ps) ≡ true → (bytes : List ℕ) → bytes ≡ text_of qs → (texts.IsWritten qs → ReadsAs bytes qs) → ReadsTangent ps name h bytes
   tangent_reads fits bytes text reads =
       let written : texts.IsWritten qs = subst texts.IsWritten (sym x.emitted) (tangent_is_written run_rules (kernel_problem ps name h.vars h.outvars) (kernel_checked ps accepted) x.varied x.carried x.exact) in
@@ -264,8 +259,8 @@ module _ (lines : List ℕ) (ps : List Procedure) (name : List ℕ) (h : Head) (
   own = record { unit = unit_number (kernel_of ps) name; vars = h.vars; outvars = h.outvars }
 
   pub text_given : (w : Wanted) (text : List ℕ) → IsTextFor w lines (kernel_of ps) own text → (a : Answer) → a.status ≡ 0 → a.text ≡ text → IsGiven w lines ps name h a
-  text_given wanted.Adjoint text x a done is = emitted_text lines ps name h accepted x.program x.emitted a done (is ∙ x.is_text)
-  text_given wanted.Tangent text x a done is = tangent_text ps name h accepted x.program x.emitted a done (is ∙ x.is_text)
+  text_given wanted.Adjoint text x a done is = done
+  text_given wanted.Tangent text x a done is = done
   text_given wanted.Plan text x a done is = record { said = x.said; takes = x.takes; tells = x.tells; text = (λ i. record { status = done i; text = (is ∙ x.is_text) i }) }
 
   pub text_reads : kernel_fits (kernel_of ps) ≡ true → (w : Wanted) → (text : List ℕ) → IsTextFor w lines (kernel_of ps) own text → ReadsFor w lines ps name h text

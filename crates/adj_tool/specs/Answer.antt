@@ -7,18 +7,13 @@ use Rattle.def_names.specs.Fault.{source_rules}
 use Rattle.def_names.specs.Check.{first_fault}
 use Rattle.def_names.specs.HeadFaults.{first_head_fault, head_of}
 use Rattle.def_text.specs.Reads.{ReadsSplits}
-use Rattle.def_text.specs.Text.{text_of}
 use Rattle.def_text.specs.declared.mode.Mode.TheVariants.{Source}
 use Rattle.adj_tool_answer.specs.Answer.{Answer, line_of_one, refused, too_long}
 use Rattle.adj_tool_answer.specs.Programs.{TextIs}
 use Rattle.def_kernel.specs.Stepped.{kernel_of}
-use Rattle.def_sweep.specs.Marking.{ProgramMarks}
 use Rattle.adj_plan.specs.Lines.{plan_lines, TellsPlan}
 use Rattle.adj_plan.specs.declared.lines.Said.{Said}
-use Rattle.def_planned.specs.Planned.{kernel_problem, split_problem, reversed_for}
-use Rattle.def_names.specs.Numbers.{Vars}
-use Rattle.def_flow.specs.Carried.{IsCarrying, carried_by}
-use Rattle.def_tangent.specs.Program.{tangent_for}
+use Rattle.def_planned.specs.Planned.{split_problem}
 use Rattle.adj_revolve.specs.declared.machine.Action.{Action}
 use Rattle.adj_revolve.specs.declared.machine.Action.TheVariants.{Store, Advance, Turn, Keep, Drop}
 use Rattle.adj_revolve.specs.Schedule.{schedule_of}
@@ -26,8 +21,8 @@ use Rattle.adj_revolve.specs.LeastCost.{least_cost}
 use Rattle.adj_tool.specs.Arguments.{Request}
 use Rattle.adj_tool.specs.declared.task.Wanted.{Wanted}
 use Rattle.adj_tool.specs.declared.task.Wanted.TheVariants as wanted
-use Rattle.adj_tool.specs.Planned.{AreExact}
 use Rattle.adj_tool.specs.Fitting.{most_numbered, kernel_fits}
+use Rattle.adj_tool.specs.Headline.{IsTransformed}
 
 -- ---- schedules
 
@@ -56,20 +51,6 @@ most_bytes = 4194304
 abbrev pub too_large : Answer
 too_large = refused (record { code = 21; line = 0; number = most_numbered })
 
--- the text of the adjoint of a program for the unit of a name as its head: what is emitted for the kernel by the marks of exact analyses, where
--- marked loops are reversed by schedules, and the calls at these lines are split
-pub record IsWritten (lines : List ℕ) (ps : List Procedure) (name : List ℕ) (h : Head) (a : Answer) : Type 0 where
-  pub marks : ProgramMarks
-  pub exact : AreExact lines ps name h marks
-  pub text : a ≡ record { status = 0; text = text_of (reversed_for ps name h.vars h.outvars marks) }
-
--- the text of the tangent of a program for the unit of a name as its head: what is emitted for the kernel by what carries a tangent, which exact analyses say
-pub record IsTangentGiven (ps : List Procedure) (name : List ℕ) (h : Head) (a : Answer) : Type 0 where
-  pub varied : ℕ → Vars
-  pub carried : ℕ → Vars
-  pub exact : IsCarrying (kernel_problem ps name h.vars h.outvars) varied carried
-  pub text : a ≡ record { status = 0; text = text_of (tangent_for (carried_by (kernel_of ps) carried) ps name h.vars) }
-
 -- the plan of a program for the unit of a name as its head, where the calls at these lines are to be split: a line for each statement of the kernel,
 -- with the letters that exact analyses say
 pub record IsPlanned (lines : List ℕ) (ps : List Procedure) (name : List ℕ) (h : Head) (a : Answer) : Type 0 where
@@ -78,9 +59,10 @@ pub record IsPlanned (lines : List ℕ) (ps : List Procedure) (name : List ℕ) 
   pub tells : TellsPlan (split_problem lines ps name h.vars h.outvars) said takes
   pub text : a ≡ record { status = 0; text = plan_lines said takes (kernel_of ps) }
 
+-- The answer is done. What the text of an adjoint or of a tangent is, says `transformed` below.
 abbrev pub IsGiven : Wanted → List ℕ → List Procedure → List ℕ → Head → Answer → Type 0
-IsGiven wanted.Adjoint lines ps name h a = IsWritten lines ps name h a
-IsGiven wanted.Tangent lines ps name h a = IsTangentGiven ps name h a
+IsGiven wanted.Adjoint lines ps name h a = a.status ≡ 0
+IsGiven wanted.Tangent lines ps name h a = a.status ≡ 0
 IsGiven wanted.Plan lines ps name h a = IsPlanned lines ps name h a
 
 -- the answer for a program and its head, where the kernel fits, or not
@@ -121,6 +103,7 @@ abbrev pub AnswersSized : Bool → Wanted → Request → List ℕ → Answer �
 AnswersSized true w r bytes a = a ≡ too_long most_bytes
 AnswersSized false w r bytes a = TextIs Source (λ found. AnswersText w r bytes found a) bytes
 
--- the answer of `adjoint`, of `tangent`, or of `plan`
-abbrev pub AnswersWanted : Wanted → Request → List ℕ → Answer → Type 0
-AnswersWanted w r bytes a = AnswersSized (nat_lt most_bytes (length bytes)) w r bytes a
+-- the answer of `adjoint`, of `tangent`, or of `plan`; where it is done, its text is that of an adjoint, or of a tangent
+pub record AnswersWanted (w : Wanted) (r : Request) (bytes : List ℕ) (a : Answer) : Type 0 where
+  pub sized : AnswersSized (nat_lt most_bytes (length bytes)) w r bytes a
+  pub transformed : IsTransformed w r bytes a

@@ -5,35 +5,28 @@ use Rattle.adj_tree.specs.declared.fault.Refusal.{Refusal}
 use Rattle.adj_tree.specs.declared.marks.Head.{Head}
 use Rattle.def_common.specs.Source.{ReadsLowered, KeepsRuns}
 use Rattle.def_text.specs.Reads.{ReadsSplits}
-use Rattle.def_text.specs.Text.{text_of}
-use Rattle.def_text.specs.declared.mode.Mode.TheVariants.{Source, Run}
+use Rattle.def_text.specs.declared.mode.Mode.TheVariants.{Source}
 use Rattle.def_meaning.specs.Written.{find_unit}
 use Rattle.def_names.specs.Fault.{source_rules}
 use Rattle.def_names.specs.Check.{first_fault}
 use Rattle.def_names.specs.HeadFaults.{first_head_fault, head_of}
 use Rattle.def_sweep.specs.MarkedAdjoint.{shadow_flags}
 use Rattle.def_sweep.specs.Marking.{ProgramMarks}
-use Rattle.def_sweep.specs.Names.{adjoint_name}
 use Rattle.def_adjoint.specs.KernelShape.{HasKernelShape}
 use Rattle.def_kernel.specs.Stepped.{kernel_of}
-use Rattle.def_planned.specs.Planned.{lines_by, reversed_for}
+use Rattle.def_planned.specs.Planned.{lines_by}
 use Rattle.adj_tool_answer.specs.Answer.{Answer, refused, too_long}
 use Rattle.adj_tool_answer.specs.Programs.{TextIs}
 use Rattle.adj_tool_answer.specs.Endings.{Asked}
 use Rattle.adj_tool_check.specs.Checking.{Sides, check_answer}
-use Rattle.adj_tool_check.specs.Emitted.{or_itself}
 use Rattle.adj_tool_check.specs.Agreeing.{TrapsAlone, Agrees}
 use Rattle.adj_tool.specs.Planned.{AreExact}
 use Rattle.adj_tool.specs.Fitting.{kernel_fits}
 use Rattle.adj_tool.specs.Answer.{most_bytes, too_large, SplitsAre}
-use Rattle.adj_tool.specs.Headline.{RunsAdjoint, flags_of}
+use Rattle.adj_tool.specs.Headline.{RunsAdjoint}
 
--- what the text of a program is in Run mode, and the program itself where its text is refused
-abbrev pub IsReadBack : List Procedure → List Procedure → Type 0
-IsReadBack qs found = TextIs Run (λ r. found ≡ or_itself qs r) (text_of qs)
-
--- A program and its head, the unit of a name, with what is emitted for its kernel by the marks of exact analyses, where its calls at these lines are split: printed and read back, and
--- itself where its text has too many statements.
+-- A program and its head, the unit of a name, with a program that is an adjoint of it, keeps the bound, and has the shape, by the marks of exact analyses, where the calls
+-- at these lines are split; and with the adjoint of the head there.
 pub record AreSides (lines : List ℕ) (ps : List Procedure) (name : List ℕ) (h : Head) (p : Sides) : Type 0 where
   pub source : p.source ≡ ps
   pub is_head : find_unit ps name ≡ Some p.head
@@ -41,19 +34,15 @@ pub record AreSides (lines : List ℕ) (ps : List Procedure) (name : List ℕ) (
   pub outvars : p.outvars ≡ h.outvars
   pub marks : ProgramMarks
   pub exact : AreExact lines ps name h marks
-  pub emitted : IsReadBack (reversed_for ps name h.vars h.outvars marks) p.emitted
-  -- what the head becomes in the kernel, which gives the name of the adjoint
-  pub kernel : Procedure
-  pub becomes : find_unit (kernel_of ps) name ≡ Some kernel
-  pub is_there : find_unit p.emitted (adjoint_name (kernel_of ps) kernel) ≡ Some p.adjoint
+  pub runs : RunsAdjoint lines marks ps name h.vars h.outvars p.emitted
+  pub shape : HasKernelShape true marks ps name h.vars h.outvars p.emitted
+  pub adjoint : p.adjoint ≡ runs.adjoins.adjoint
   pub shadows : p.shadowed ≡ shadow_flags (marks.shadowed name) p.head.dummies
 
 -- the answer to the data behind a text, which tells of no trap but the head's own
 pub record IsChecked (lines : List ℕ) (ps : List Procedure) (h : Head) (r : Asked) (bytes : List ℕ) (a : Answer) : Type 0 where
   pub sides : Sides
   pub are_sides : AreSides lines ps r.head h sides
-  pub runs : RunsAdjoint lines are_sides.marks ps r.head h.vars h.outvars sides.emitted
-  pub shape : HasKernelShape true are_sides.marks ps r.head h.vars h.outvars sides.emitted
   pub is : a ≡ check_answer r sides bytes
   pub traps : TrapsAlone r sides bytes
 
@@ -100,8 +89,6 @@ pub record ChecksAdjoint (r : Asked) (vars outvars : List (List ℕ)) (bytes tex
   pub reads_splits : ReadsSplits bytes splits
   pub sides : Sides
   pub are_sides : AreSides splits source r.head (head_of source r.head vars outvars) sides
-  pub runs : RunsAdjoint splits are_sides.marks source r.head (flags_of vars sides.head.dummies) (flags_of outvars sides.head.dummies) sides.emitted
-  pub shape : HasKernelShape true are_sides.marks source r.head (flags_of vars sides.head.dummies) (flags_of outvars sides.head.dummies) sides.emitted
   pub agrees : Agrees r (lines_by source are_sides.marks) sides bytes text
 
 -- where the answer to these bytes is done

@@ -18,7 +18,7 @@ use Rattle.adj_data.specs.Marked.{check_fault}
 use Rattle.adj_tool_answer.specs.Answer.{Answer}
 use Rattle.adj_tool_answer.specs.Programs.{IsProgram}
 use Rattle.adj_tool_answer.specs.Endings.{Asked}
-use Rattle.adj_tool_check.specs.Checking.{Sides, Given, original_run, dual_run, adjoint_run, given_of}
+use Rattle.adj_tool_check.specs.Checking.{Sides, Given, original_run, dual_run, adjoint_run, check_answer, given_of}
 use Rattle.def_jacobian.specs.Patterns.{pattern_run}
 use Rattle.adj_tool_jacobian.specs.Jacobian as jacobian
 use Rattle.adj_tool_jacobian.specs.Jacobian.{AnswersJacobian, task_of}
@@ -70,9 +70,9 @@ JacobianIsDone =
     (r : Asked) (vars outvars : List (List ℕ)) (bytes : List ℕ) (a : Answer) (t : IsSoundText Source source_rules jacobian.most_bytes bytes) → first_head_fault t.source r.head vars outvars ≡ None → (u : Procedure) → find_unit t.source r.head ≡ Some u →
     data_fault (data_of bytes).1 (drop (data_of bytes).0 bytes) u ≡ None → IsDone (pattern_run (task_of r t.source u (head_of t.source r.head vars outvars).vars (input_given (data_of bytes).1 (drop (data_of bytes).0 bytes) u))) → AnswersJacobian r vars outvars bytes a → a.status ≡ 0
 
--- whatever program is emitted, if its sides are those of the text
+-- whatever adjoint of this shape was run: where the answer is that of its runs and the others, the data have no fault and these are done
 abbrev pub CheckIsDone : Type 0
 CheckIsDone =
     (r : Asked) (vars outvars : List (List ℕ)) (bytes : List ℕ) (a : Answer) (t : IsHeadedText r.head vars outvars bytes) →
-    ((lines : List ℕ) → ReadsSplits bytes lines → (p : Sides) → AreSides lines t.text.source r.head (head_of t.text.source r.head vars outvars) p → (check_fault (data_of bytes).1 (drop (data_of bytes).0 bytes) p.head p.vars p.outvars ≡ None) × AreDone r p (given_of p bytes)) →
+    ((lines : List ℕ) → ReadsSplits bytes lines → (p : Sides) → AreSides lines t.text.source r.head (head_of t.text.source r.head vars outvars) p → a ≡ check_answer r p bytes → (check_fault (data_of bytes).1 (drop (data_of bytes).0 bytes) p.head p.vars p.outvars ≡ None) × AreDone r p (given_of p bytes)) →
     AnswersCheck r vars outvars bytes a → a.status ≡ 0

@@ -4,7 +4,6 @@ use Rattle.adj_tree.specs.Code.{Procedure}
 use Rattle.adj_tree.specs.Lines.{unlined}
 use Rattle.def_text.specs.Reads.{Reads, ReadsSplits}
 use Rattle.def_common.specs.Source.{ReadsLowered, KeepsRuns}
-use Rattle.def_text.specs.ReadsAs.{ReadsAs}
 use Rattle.def_text.specs.Text.{text_of}
 use Rattle.def_text.specs.declared.mode.Mode.TheVariants.{Run}
 use Rattle.def_meaning.specs.Written.{find_unit}
@@ -22,14 +21,11 @@ use Rattle.def_adjoint.specs.Calls.{CallsWithin}
 use Rattle.def_adjoint.specs.Spends.{SpendsAtMost}
 use Rattle.def_adjoint.specs.KernelSpends.{HaveVariables, KernelSpendsAtMost, KernelSpendsWithin}
 use Rattle.def_adjoint.specs.Adjoint.{HaveOwnNames, IsAdjointOf}
-use Rattle.def_planned.specs.Planned.{HasNoMarks, kernel_problem, facts_by, lines_by, reversed_for}
+use Rattle.def_planned.specs.Planned.{HasNoMarks, kernel_problem, facts_by, lines_by}
 use Rattle.def_flow.specs.Carried.{IsCarrying, carried_by}
 use Rattle.def_tangent.specs.IsTangent.{IsTangentOfSource}
-use Rattle.def_tangent.specs.Program.{tangent_for}
 use Rattle.def_adjoint.specs.KernelShape.{HasKernelShape}
-use Rattle.adj_tree.specs.declared.marks.Head.{Head}
 use Rattle.def_kernel.specs.Stepped.{kernel_of}
-use Rattle.adj_tool.specs.Fitting.{kernel_fits}
 use Rattle.adj_tool.specs.Planned.{AreExact}
 use Rattle.adj_tool.specs.Arguments.{Request}
 use Rattle.adj_tool.specs.declared.task.Wanted.{Wanted}
@@ -120,31 +116,6 @@ pub record EmitsTangent (r : Request) (bytes written : List ℕ) : Type 0 where
   pub canonical : IsCanonical r bytes written tangent.programs
 
 -- ---- what is asked of the text
-
--- where the answer is done, the kernel fits, and its text reads as the program that is emitted by the marks of exact analyses
-pub record ReadsWritten (lines : List ℕ) (ps : List Procedure) (name : List ℕ) (h : Head) (text : List ℕ) : Type 0 where
-  pub fits : kernel_fits (kernel_of ps) ≡ true
-  pub marks : ProgramMarks
-  pub exact : AreExact lines ps name h marks
-  pub is_text : text ≡ text_of (reversed_for ps name h.vars h.outvars marks)
-  pub reads : ReadsAs text (reversed_for ps name h.vars h.outvars marks)
-
--- the same of a tangent
-pub record ReadsTangent (ps : List Procedure) (name : List ℕ) (h : Head) (text : List ℕ) : Type 0 where
-  pub fits : kernel_fits (kernel_of ps) ≡ true
-  pub varied : ℕ → Vars
-  pub carried : ℕ → Vars
-  pub exact : IsCarrying (kernel_problem ps name h.vars h.outvars) varied carried
-  pub is_text : text ≡ text_of (tangent_for (carried_by (kernel_of ps) carried) ps name h.vars)
-  pub reads : ReadsAs text (tangent_for (carried_by (kernel_of ps) carried) ps name h.vars)
-
-abbrev pub ReadsFor : Wanted → List ℕ → List Procedure → List ℕ → Head → List ℕ → Type 0
-ReadsFor wanted.Adjoint lines ps name h text = ReadsWritten lines ps name h text
-ReadsFor wanted.Tangent lines ps name h text = ReadsTangent ps name h text
-ReadsFor wanted.Plan lines ps name h text = Unit {0}
-
-abbrev pub ReadsBack : Wanted → Answer → List ℕ → List Procedure → List ℕ → Head → Type 0
-ReadsBack w a lines ps name h = a.status ≡ 0 → ReadsFor w lines ps name h a.text
 
 -- where the answer to these bytes is done, its text is that of an adjoint, or of a tangent
 abbrev pub Writes : Wanted → Request → List ℕ → List ℕ → Type 0

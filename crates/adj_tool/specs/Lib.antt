@@ -5,6 +5,7 @@ pub mod Planned
 pub mod Answer
 pub mod Headline
 pub mod Check
+pub mod Exactly
 pub mod Sample
 pub mod Views
 pub mod Tool

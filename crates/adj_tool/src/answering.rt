@@ -1,6 +1,6 @@
 //! The commands that are asked for a head: `adjoint`, `tangent` and `plan`.
 
-ghost use Rattle.std.specs.Prelude.{◌≡◌, ◌≤◌, ◌∷◌, [], ℕ, List, None, Ok, length, IfOk};
+ghost use Rattle.std.specs.Prelude.{◌≡◌, ◌≤◌, ℕ, List, None, Ok, length, IfOk};
 ghost use Rattle.adj_tree.specs.View.{procedures_of};
 ghost use Rattle.def_common.specs.Source.{ReadsLowered};
 ghost use Rattle.def_text.specs.Reads.{ReadsSplits};
@@ -15,8 +15,9 @@ ghost use Rattle.def_kernel.specs.Stepped.{kernel_of};
 ghost use Rattle.def_refused.specs.TextFaults.{program_of};
 ghost use Rattle.adj_tool_answer.specs.Views.{answer_of};
 ghost use Rattle.adj_tool.specs.Answer.{AnswersAccepted, AnswersChecked, AnswersFitted, AnswersProgram, AnswersWanted, most_bytes, too_large};
+ghost use Rattle.adj_tool.specs.Exactly.{ReadsBack};
 ghost use Rattle.adj_tool.specs.Fitting.{kernel_fits};
-ghost use Rattle.adj_tool.specs.Headline.{IsTransformed, IsUnit, ReadsBack};
+ghost use Rattle.adj_tool.specs.Headline.{IsTransformed, IsUnit};
 ghost use Rattle.adj_tool.specs.Views.{request_of};
 
 use crate::planned::text_wanted;

@@ -1,6 +1,6 @@
 //! The command `check`.
 
-ghost use Rattle.std.specs.Prelude.{◌≡◌, ◌≤◌, None, Ok, length, IfOk, IsErrOf};
+ghost use Rattle.std.specs.Prelude.{◌≡◌, ◌≤◌, None, Ok, true, length, IfOk, IsErrOf};
 ghost use Rattle.adj_io.specs.Faults.{Rose};
 ghost use Rattle.adj_tree.specs.View.{procedures_of};
 ghost use Rattle.def_common.specs.Source.{ReadsLowered};
@@ -10,11 +10,14 @@ ghost use Rattle.def_text.specs.declared.mode.Mode.TheVariants.{Source};
 ghost use Rattle.def_names.specs.Check.{IsSound};
 ghost use Rattle.def_names.specs.Fault.{source_rules};
 ghost use Rattle.def_names.specs.HeadFaults.{first_head_fault, head_of};
+ghost use Rattle.def_kernel.specs.Stepped.{kernel_of};
 ghost use Rattle.def_refused.specs.TextFaults.{program_of};
 ghost use Rattle.adj_tool_answer.specs.Views.{answer_of};
 ghost use Rattle.adj_tool_answer.specs.EndingViews.{asked_of};
 ghost use Rattle.adj_tool.specs.Answer.{most_bytes};
 ghost use Rattle.adj_tool.specs.Check.{AnswersAcceptedCheck, AnswersCheck, AnswersSoundCheck, AnswersTextCheck, ChecksAdjoint, IsCompared};
+ghost use Rattle.adj_tool.specs.Exactly.{RunsWritten};
+ghost use Rattle.adj_tool.specs.Fitting.{kernel_fits};
 ghost use Rattle.adj_tool.specs.Tool.{AnswersInput, TransformsInput};
 
 use crate::answering::{too_large, unit_number};
@@ -50,6 +53,8 @@ fn answer_head(
     requires few { length bytes.now ≤ most_bytes }
     ensures answer { IfOk result (λ a. AnswersAcceptedCheck (asked_of request.now.run) bytes.now splits.now (procedures_of program.now.program) head (answer_of a)) }
     ensures compared { IfOk result (λ a. IsCompared (asked_of request.now.run) request.now.vars request.now.outvars bytes.now (answer_of a)) }
+    // The adjoint that was run is what `adjoint` writes.
+    ensures written { IfOk result (λ a. kernel_fits (kernel_of (procedures_of program.now.program)) ≡ true → RunsWritten splits.now (procedures_of program.now.program) head (asked_of request.now.run) bytes.now (answer_of a)) }
 {
     emitted_law();
     reading_law();
